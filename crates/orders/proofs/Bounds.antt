@@ -24,22 +24,6 @@ price-between p = grid-between (p .quarters) (p .ok)
 pub bid-below : (q : Quote) → q .bid .quarters < q .offer .quarters
 bid-below q = ltb-true (q .bid .quarters) (q .offer .quarters) (q .ok)
 
-lot-between-if : (n : ℕ) → isLot n ≡ true → (100 ≤ n) × (n ≤ 1000)
-lot-between-if n h = (grind (arith, tells), grind (arith, tells))
-
-pub lot-between : (l : Lot) → (100 ≤ l .shares) × (l .shares ≤ 1000)
-lot-between l = lot-between-if (l .shares) (l .ok)
-
-shares-between : (n : ℕ) → sharesFit n ≡ true → (1 ≤ n) × (n ≤ 10000000)
-shares-between n h = (grind (arith, tells), grind (arith, tells))
-
-plain-left : (left size broker stamp number : ℕ) → plainFits left size broker stamp number ≡ true → sharesFit left ≡ true
-plain-left left size broker stamp number h = and-parts _ _ (and-parts _ _ (and-parts _ _ (and-parts _ _ h .0) .0) .0) .0
-
-pub left-between : (o : Order) → (1 ≤ o .left) × (o .left ≤ 10000000)
-unfolding orderFits
-left-between o = shares-between (o .left) (plain-left (o .left) (o .size) (o .broker) (o .stamp) (o .number) (and-parts _ _ (o .ok) .0))
-
 -- the limit that the kind allows
 pub limit-fits : (o : Order) → limitFits (o .kind) (o .limit) ≡ true
 unfolding orderFits

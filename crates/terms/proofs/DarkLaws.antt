@@ -11,7 +11,7 @@ use Rattle.std.specs.declared.option.Option.{Option}
 use Rattle.std.specs.declared.option.Option.the-variants.{Some, None}
 use Rattle.orders.specs.Kinds.{minimumFits, limitFits}
 use Rattle.orders.specs.Quotes.{middle}
-use Rattle.orders.proofs.Bounds.{limit-fits, limit-most, price-between, bid-below, lot-between}
+use Rattle.orders.proofs.Bounds.{limit-fits, price-between, bid-below}
 use Rattle.orders.specs.declared.kind.Kind.{Kind}
 use Rattle.orders.specs.declared.kind.Kind.the-variants.{Limit, LimitAtOnce, Market, MiddlePeg, MinimumImprovement, MinimumEach, MinimumSum, SeekImprovement}
 use Rattle.orders.specs.declared.lot.Lot.{Lot}

@@ -24,7 +24,7 @@ fn party_fits(entry: &Entry, may_hide: bool) -> bool
 
 // The first wrong field of an entry of a kind that the book trades, where the book says whether it may be hidden, whether
 // its shares are in whole units, and whether its minimum is allowed.
-pub fn first_wrong(
+pub(crate) fn first_wrong(
     entry: &Entry,
     kind: Kind,
     may_hide: bool,

@@ -1,0 +1,3 @@
+pub mod States
+pub mod Causes
+pub mod Calls

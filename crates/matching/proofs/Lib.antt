@@ -1,0 +1,13 @@
+pub mod Scans
+pub mod Options
+pub mod Rows
+pub mod Chosen
+pub mod Laying
+pub mod Running
+pub mod Pairing
+pub mod Sweeping
+pub mod Occupied
+pub mod Spending
+pub mod Settling
+pub mod Foremost
+pub mod PassedOver

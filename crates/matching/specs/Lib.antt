@@ -1,0 +1,6 @@
+pub mod Market
+pub mod Trades
+pub mod Firsts
+pub mod Sums
+pub mod Runs
+pub mod Sweeps

@@ -1,0 +1,5 @@
+pub mod Phases
+pub mod Shifts
+pub mod Places
+pub mod Amendments
+pub mod Remainders
