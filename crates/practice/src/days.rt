@@ -53,7 +53,7 @@ pub(crate) fn lit() -> [Step; 19] {
 
 // A minimum that shrinks until a resting pair trades; minimums for each order and in sum at the touch; a peg that is cut
 // below its minimum and raised again, and trades when the quote has become narrow during a halt.
-pub(crate) fn dark() -> [Step; 23] {
+pub(crate) fn dark() -> [Step; 24] {
     [
         Step::Quote(4_040, 4_060),
         buy(1, 10_000, 4_048, 1_000, 7),
@@ -70,6 +70,7 @@ pub(crate) fn dark() -> [Step; 23] {
         buy(4, 1_000, 0, 600, 7),
         Step::Amend(10, 300, 0),
         Step::Amend(10, 1_000, 0),
+        sell(1, 500, 4_040, 0, 9),
         sell(5, 700, 0, 0, 8),
         Step::Amend(10, 1_000, 4_048),
         Step::Turn(Event::Halt),
@@ -89,6 +90,19 @@ pub(crate) fn three_bids(second: u32) -> [Step; 5] {
         buy(1, 1_000, 240, 0, 13),
         sell(1, 5_000, 240, 0, 50),
         sell(1, 1_000, 240, 0, 50),
+    ]
+}
+
+// Four bids at 240, of which the second is filled down to 25,000 and then amended, and a sale of 86,000.
+pub(crate) fn amended_bid(shares: u32) -> [Step; 7] {
+    [
+        buy(1, 1_000, 240, 0, 11),
+        buy(1, 60_000, 240, 0, 12),
+        buy(1, 50_000, 240, 0, 13),
+        buy(1, 35_000, 240, 0, 14),
+        sell(1, 35_000, 240, 0, 50),
+        Step::Amend(2, shares, 240),
+        sell(1, 86_000, 240, 0, 50),
     ]
 }
 

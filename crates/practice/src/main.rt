@@ -46,6 +46,27 @@ fn play_ranks(rt: &LibcRuntime) -> Result<(), AnyError> {
         4,
         &days::three_bids(29_999),
     )?;
+    println!(
+        rt,
+        "A bid of 25000 that is amended to 30000 stands behind two larger ones"
+    )?;
+    play(
+        rt,
+        PriceBrokerSizeTime,
+        Lit,
+        240,
+        5,
+        &days::amended_bid(30_000),
+    )?;
+    println!(rt, "Amended to 55000 it stands before both")?;
+    play(
+        rt,
+        PriceBrokerSizeTime,
+        Lit,
+        240,
+        5,
+        &days::amended_bid(55_000),
+    )?;
     println!(rt, "A full book")?;
     play(rt, PriceBrokerSizeTime, Lit, 240, 3, &days::full())?;
     println!(rt, "The size test after a cut and a raise")?;
