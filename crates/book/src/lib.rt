@@ -1,4 +1,6 @@
 // A book: the places lent with every call, the calls and their replies, over any priority and any terms.
+#![tactic(auto)]
+
 mod admitting;
 mod amending;
 mod answering;

@@ -1,4 +1,6 @@
 // The commands of a session: what a line asks for.
+#![tactic(auto)]
+
 pub mod command;
 mod parsing;
 mod phrases;

@@ -1,5 +1,7 @@
 // The edges of session text: plays each text of a table and prints whether its listing is the expected one, byte for byte.
 // The expected listings were worked out by hand from the rules.
+#![tactic(auto)]
+
 mod bytes;
 mod faults;
 mod lengths;

@@ -1,4 +1,6 @@
 // The matching: what an active order trades with the resting ones, and what resting orders trade with one another.
+#![tactic(auto)]
+
 mod choosing;
 pub mod matcher;
 mod measuring;

@@ -1,4 +1,6 @@
 // The market's vocabulary: prices, lots, quotes, orders and the rows that hold them, fills, receipts and refusals.
+#![tactic(auto)]
+
 pub mod call;
 #[cfg(test)]
 mod edges;

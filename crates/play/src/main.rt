@@ -1,4 +1,6 @@
 // The practice market: a session text from standard input, its listing to standard output.
+#![tactic(auto)]
+
 mod printing;
 
 use printing::Printer;

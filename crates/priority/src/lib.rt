@@ -1,4 +1,6 @@
 // Priorities: which of two resting orders an active one meets first.
+#![tactic(auto)]
+
 pub mod candidate;
 #[cfg(test)]
 mod edges;

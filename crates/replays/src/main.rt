@@ -1,5 +1,7 @@
 // Replays a day in a dark book and one in a lit book, and prints them from beginning to end for a person: each call, its
 // reply, its fills, and the book after it.
+#![tactic(auto)]
+
 mod days;
 mod keeping;
 mod printer;

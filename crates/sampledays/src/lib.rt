@@ -1,4 +1,6 @@
 // Days in both books, worked out by hand and shown of the definitions of the calls.
+#![tactic(auto)]
+
 ghost use Rattle.std.specs.Prelude.{◌≡◌, true};
 ghost use Rattle.sampledays.specs.Days.{days};
 ghost use Rattle.sampledays.specs.Playing.{all_days_hold};

@@ -1,4 +1,6 @@
 // Plays sample sessions and prints of each its name and its listing.
+#![tactic(auto)]
+
 mod each_at_touch;
 mod improving;
 mod large_bids;

@@ -1,4 +1,6 @@
 // A session: commands played one after another on the book now open, and the listing of a whole text.
+#![tactic(auto)]
+
 pub mod fault;
 mod obeying;
 mod opening;

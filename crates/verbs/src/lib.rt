@@ -1,2 +1,4 @@
 // The words of the session text, each told from any other.
+#![tactic(auto)]
+
 pub mod verb;

@@ -6,7 +6,7 @@ use Rattle.session.proofs.text.listing_of.Goals as goal
 
 pub returns : goal.returns
 returns c =
-    let k = c.play-text.new.sink in
+    let k = c.play_text.new.sink in
     let goal = listing_of c.args.text.now in
-    made_from (λ x. (x ≡ k.bytes) × (k.full ≡ false)) (λ x. string_bytes x ≡ all_bytes goal) (λ _. k.full ≡ true) c.into-listing.result c.into-listing.ensures
-    (λ x h. ap (λ y. string_bytes y) h.0 ∙ (kept_all goal c.new-keeper.result k c.play-text.ensures h.1).1 ∙ ap (λ (b : List ℕ). b ++ all_bytes goal) c.new-keeper.ensures.0)
+    made_from (λ x. (x ≡ k.bytes) × (k.full ≡ false)) (λ x. string_bytes x ≡ all_bytes goal) (λ _. k.full ≡ true) c.into_listing.result c.into_listing.ensures
+    (λ x h. ap (λ y. string_bytes y) h.0 ∙ (kept_all goal c.new-keeper.result k c.play_text.ensures h.1).1 ∙ ap (λ (b : List ℕ). b ++ all_bytes goal) c.new-keeper.ensures.0)

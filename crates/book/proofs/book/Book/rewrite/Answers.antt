@@ -17,7 +17,7 @@ returns g c =
     let w = c.swept-count.ensures in
     record {
       reply = ap Ok c.receipt.ensures ∙ rewrite_reply u s c.args.places.now c.put.new.places c.swept-count.new.places c.args.place c.args.stays c.args.row.now c.args.number c.args.cancelled
-          c.left-at-resting.result c.saturating-sub-filled.result c.swept-count.result c.put.ensures w.count w.places c.left-at-resting.ensures c.saturating-sub-filled.ensures;
+          c.left_at-resting.result c.saturating_sub-filled.result c.swept-count.result c.put.ensures w.count w.places c.left_at-resting.ensures c.saturating_sub-filled.ensures;
       places = w.places ∙ ap (λ x. (swept u s x).rows) c.put.ensures;
       fills = w.fills ∙ ap (λ x. written 0 (swept u s x).fills c.args.fills.now) c.put.ensures;
       few = omega (arith, ap (λ r. r.fills) c.receipt.ensures, settle_few u s c.put.new.places c.swept-count.result w.count, c.put.auto.places);

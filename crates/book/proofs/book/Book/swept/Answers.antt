@@ -5,9 +5,9 @@ use Rattle.book.specs.States.{state_of, rules_of}
 use Rattle.book.proofs.Trying.{swept_open, swept_idle}
 use Rattle.book.proofs.book.Book.swept.Goals as goal
 
-pub returns-then-is-open : goal.returns-then-is-open
-returns-then-is-open g c =
-    let e = swept_open (rules_of g.T.Terms.deals g.T.Terms.verdict g.P.Priority.before c.args.self.now) (state_of c.args.self.now) c.args.places.now c.args.from (length c.args.fills.now) (sym c.if-is-open.ensures) c.requires in
+pub returns-then-is_open : goal.returns-then-is_open
+returns-then-is_open g c =
+    let e = swept_open (rules_of g.T.Terms.deals g.T.Terms.verdict g.P.Priority.before c.args.self.now) (state_of c.args.self.now) c.args.places.now c.args.from (length c.args.fills.now) (sym c.if-is_open.ensures) c.requires in
     let w = c.sweep.ensures in
     record {
       count = w.count ∙ ap (λ d. c.args.from + length d.fills) e;
@@ -17,7 +17,7 @@ returns-then-is-open g c =
 
 pub returns : goal.returns
 returns g c =
-    let e = swept_idle (rules_of g.T.Terms.deals g.T.Terms.verdict g.P.Priority.before c.args.self.now) (state_of c.args.self.now) c.args.places.now (sym c.if-is-open.ensures) in
+    let e = swept_idle (rules_of g.T.Terms.deals g.T.Terms.verdict g.P.Priority.before c.args.self.now) (state_of c.args.self.now) c.args.places.now (sym c.if-is_open.ensures) in
     let n : c.args.from ≡ c.args.from + 0 = omega arith in
     record {
       count = n ∙ sym (ap (λ d. c.args.from + length d.fills) e);

@@ -8,14 +8,14 @@ use Rattle.book.specs.Calls.{decided, turned}
 use Rattle.book.proofs.Turns.{sent_back_lem}
 use Rattle.book.proofs.book.Book.turn.Goals as goal
 
-pub returns-in-err-shift : goal.returns-in-err-shift
-returns-in-err-shift g c =
+pub returns-in_err-shift : goal.returns-in_err-shift
+returns-in_err-shift g c =
     let u = rules_of g.T.Terms.deals g.T.Terms.verdict g.P.Priority.before c.args.self.now in
     let s = state_of c.args.self.now in
     let rows = c.args.places.now in
     let old = c.args.fills.now in
-    let p = err_from_is_err_and c.from-residual-in-err-shift.result c.from-residual-in-err-shift.ensures.1 in
-    let b = sent_back_lem s c.args.event (length old) rows c.in-err-shift.field-0.0 c.in-ok-admits-lists.ensures c.in-err-shift.ensures.value in
+    let p = err_from_is_err_and c.from_residual-in_err-shift.result c.from_residual-in_err-shift.ensures.1 in
+    let b = sent_back_lem s c.args.event (length old) rows c.in_err-shift.field-0.0 c.in_ok-admits_lists.ensures c.in_err-shift.ensures.value in
     record {
       reply = p.1 ∙ ap Err p.2 ∙ sym (ap (λ v. (decided v s rows (turned u s c.args.event rows)).reply) b.0);
       state = ap (with_phase s) (c.shift.ensures.phase ∙ b.1) ∙ sym (ap (λ v. (decided v s rows (turned u s c.args.event rows)).state) b.0);

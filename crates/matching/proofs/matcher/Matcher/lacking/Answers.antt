@@ -7,7 +7,7 @@ use Rattle.matching.proofs.matcher.Matcher.lacking.Goals as goal
 pub loop-i-preserved : goal.loop-i-preserved
 loop-i-preserved g c =
     lack_more (counted (market_of g.T.Terms.deals g.P.Priority.before c.args.self.now) c.args.active.now) c.args.places.now c.loop-i.i _ c.loop-i.lack
-    c.saturating-sub-lack.result c.counted.result c.loop-i-test.true c.counted.ensures c.saturating-sub-lack.ensures
+    c.saturating_sub-lack.result c.counted.result c.loop-i-test.true c.counted.ensures c.saturating_sub-lack.ensures
     ∙ c.loop-i.invariant
 
 pub returns : goal.returns

@@ -15,12 +15,12 @@ pub loop-count-preserved : goal.loop-count-preserved
 loop-count-preserved g c =
     let h : c.loop-count.count < length c.args.fills.now = omega arith in
     going_more (market_of g.T.Terms.deals g.P.Priority.before c.args.self.now) _ c.args.fills.now c.loop-count.count c.loop-count.touched c.loop-count.active c.loop-count.places c.loop-count.fills c.loop-count.invariant
-    c.in-Some.meeting (sym c.in-Some.ensures) h c.fill.result c.left-passive.result c.left-active-active.result c.touched-by-touched.result
-    c.fill.ensures c.left-passive.ensures c.left-active-active.ensures c.touched-by-touched.ensures
+    c.in-Some.meeting (sym c.in-Some.ensures) h c.fill.result c.left_passive.result c.left_active-active.result c.touched_by-touched.result
+    c.fill.ensures c.left_passive.ensures c.left_active-active.ensures c.touched_by-touched.ensures
 
-pub returns-in-default : goal.returns-in-default
-returns-in-default g c =
-    let w = going_stops (market_of g.T.Terms.deals g.P.Priority.before c.args.self.now) _ c.args.fills.now c.loop-count.count c.loop-count.touched c.loop-count.active c.loop-count.places c.loop-count.fills c.loop-count.invariant (sym c.in-default.ensures) in
+pub returns-in_default : goal.returns-in_default
+returns-in_default g c =
+    let w = going_stops (market_of g.T.Terms.deals g.P.Priority.before c.args.self.now) _ c.args.fills.now c.loop-count.count c.loop-count.touched c.loop-count.active c.loop-count.places c.loop-count.fills c.loop-count.invariant (sym c.in_default.ensures) in
     record { count = w.count-is; active = w.active-is; places = w.rows-is; fills = w.fills-is }
 
 pub returns-after-loop-count : goal.returns-after-loop-count

@@ -3,8 +3,8 @@ use Rattle.matching.specs.Market.{market_of}
 use Rattle.matching.proofs.PassedOver.{passed_none}
 use Rattle.matching.proofs.matcher.Matcher.seen.Goals as goal
 
-pub returns-then-passed-over : goal.returns-then-passed-over
-returns-then-passed-over g c =
+pub returns-then-passed_over : goal.returns-then-passed_over
+returns-then-passed_over g c =
     let m = c.args.self.now in
     sym (passed_none (market_of g.T.Terms.deals g.P.Priority.before m) (λ a r. g.met.T.Terms.opposite_sides m.terms a r m.quote m.lot)
-    c.args.active.now c.args.place c.args.row.now (sym c.if-passed-over.ensures))
+    c.args.active.now c.args.place c.args.row.now (sym c.if-passed_over.ensures))

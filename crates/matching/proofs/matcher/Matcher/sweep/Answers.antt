@@ -26,11 +26,11 @@ pub loop-count-preserved : goal.loop-count-preserved
 loop-count-preserved g c =
     let h : c.loop-count.count < length c.args.fills.now = omega arith in
     sweeping_more (market_of g.T.Terms.deals g.P.Priority.before c.args.self.now) _ c.args.from c.args.fills.now c.loop-count.count c.loop-count.places c.loop-count.fills c.loop-count.invariant
-    c.in-Some.pair (sym c.in-Some.ensures) h c.fill.result c.left-active.result c.left-passive.result c.fill.ensures c.left-active.ensures c.left-passive.ensures
+    c.in-Some.pair (sym c.in-Some.ensures) h c.fill.result c.left_active.result c.left_passive.result c.fill.ensures c.left_active.ensures c.left_passive.ensures
 
-pub returns-in-default : goal.returns-in-default
-returns-in-default g c =
-    let w = sweeping_stops (market_of g.T.Terms.deals g.P.Priority.before c.args.self.now) _ c.args.from c.args.fills.now c.loop-count.count c.loop-count.places c.loop-count.fills c.loop-count.invariant (sym c.in-default.ensures) in
+pub returns-in_default : goal.returns-in_default
+returns-in_default g c =
+    let w = sweeping_stops (market_of g.T.Terms.deals g.P.Priority.before c.args.self.now) _ c.args.from c.args.fills.now c.loop-count.count c.loop-count.places c.loop-count.fills c.loop-count.invariant (sym c.in_default.ensures) in
     record { count = w.count-is; places = w.rows-is; fills = w.fills-is }
 
 pub returns-after-loop-count : goal.returns-after-loop-count

@@ -4,5 +4,5 @@ use Rattle.orders.proofs.quote.Quote.new.Goals as goal
 
 pub returns-then-bid-offer : goal.returns-then-bid-offer
 returns-then-bid-offer c =
-    let e = quote_is c.args.bid c.args.offer c.in-ok-bid.bid c.in-ok-offer.offer _ c.in-ok-bid.ensures c.in-ok-offer.ensures in
+    let e = quote_is c.args.bid c.args.offer c.in_ok-bid.bid c.in_ok-offer.offer _ c.in_ok-bid.ensures c.in_ok-offer.ensures in
     record { value = e; test = ap is_some e ∙ quote_test c.args.bid c.args.offer }

@@ -4,5 +4,5 @@ use Rattle.orders.proofs.row.Row.decoded.Goals as goal
 
 pub returns : goal.returns
 returns c =
-    sym (order_is c.args.self.now _ _ _ _ _ (sym c.in-ok-side.ensures.value)
-    (sym c.in-ok-kind.ensures.value) (sym c.in-ok-mark.ensures.value) (sym c.in-ok-hidden.ensures.value))
+    sym (order_is c.args.self.now _ _ _ _ _ (sym c.in_ok-side.ensures.value)
+    (sym c.in_ok-kind.ensures.value) (sym c.in_ok-mark.ensures.value) (sym c.in_ok-hidden.ensures.value))

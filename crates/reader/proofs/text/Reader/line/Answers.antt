@@ -5,4 +5,4 @@ pub returns-then-self : goal.returns-then-self
 returns-then-self c = let e = no_lines c.args.self.now.text.now c.args.self.now.at c.if-self.true in (e, e)
 
 pub returns : goal.returns
-returns c = line_step _ _ _ _ c.until-end.ensures.place c.next-line-self.ensures c.if-self.false
+returns c = line_step _ _ _ _ c.until-end.ensures.place c.next_line-self.ensures c.if-self.false

@@ -12,8 +12,8 @@ returns c =
     elim c.if-stop-end.branch [
       | then-stop-end w ↦
           let k = one_on (length line) _ _ _ (word_more line self.at stop self.more c.until-stop.ensures.place c.if-not-self.false w.if-stop-end.true) in
-          record { first = c.token-of.ensures ∙ sym k.0; rest = ap left w.self-is ∙ sym k.1 }
+          record { first = c.token_of.ensures ∙ sym k.0; rest = ap left w.self-is ∙ sym k.1 }
       | else-stop-end w ↦
           let k = one_on (length line) _ _ _ (word_last line self.at stop self.more c.until-stop.ensures.place c.if-not-self.false w.if-stop-end.false) in
-          record { first = c.token-of.ensures ∙ sym k.0; rest = ap left w.self-is ∙ sym k.1 }
+          record { first = c.token_of.ensures ∙ sym k.0; rest = ap left w.self-is ∙ sym k.1 }
     ]

@@ -16,7 +16,7 @@ returns c =
     let b = c.in-Some.book in
     let n = c.args.number in
     let k : ℕ = c.min-count.result - 0 in
-    let capped : k ≡ min b.places (length s.rows) = omega (arith, c.min-count.ensures, c.place-count.ensures) in
+    let capped : k ≡ min b.places (length s.rows) = omega (arith, c.min-count.ensures, c.place_count.ensures) in
     c.ask.ensures
     ∙ ap (λ (l : List Row). ask (state_of b) n l) (take_capped b.places k s.rows capped)
     ∙ sym (ap (λ (x : Option (Book Ranking Venue)). (asks n (desk_by x s.rows)).reply) c.in-Some.is)

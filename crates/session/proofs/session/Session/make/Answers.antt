@@ -6,11 +6,11 @@ pub returns : goal.returns
 returns c =
     let s = c.args.self.now in
     let b = c.in-Some.book in
-    let b' = c.answer-in-reply.new.book in
-    let rows' = c.answer-in-reply.new.rows in
-    let fills' = c.answer-in-reply.new.fills in
-    let r = c.answer-in-reply.result in
-    let e = c.answer-in-reply.ensures in
+    let b' = c.answer_in-reply.new.book in
+    let rows' = c.answer_in-reply.new.rows in
+    let fills' = c.answer_in-reply.new.fills in
+    let r = c.answer_in-reply.result in
+    let e = c.answer_in-reply.ensures in
     let is = sym c.in-Some.ensures.value in
     let all : length s.fills ≡ 1024 = search rules in
     record {

@@ -10,10 +10,10 @@ returns c =
     let n = c.args.places in
     let rows = c.args.self.now.rows in
     let d = desk_of c.args.self.now in
-    let b = c.in-ok-book.book in
-    let e = c.in-ok-book.ensures in
+    let b = c.in_ok-book.book in
+    let e = c.in_ok-book.ensures in
     record {
-      reply = opened_reply v last n rows c.open-in.new.rows b d e.test e.book.0 e.book.1 e.book.2 e.rows;
-      desk = opened_desk v last n rows c.open-in.new.rows b d e.test e.book.0 e.book.1 e.book.2 e.rows;
+      reply = opened_reply v last n rows c.open_in.new.rows b d e.test e.book.0 e.book.1 e.book.2 e.rows;
+      desk = opened_desk v last n rows c.open_in.new.rows b d e.test e.book.0 e.book.1 e.book.2 e.rows;
       count = refl;
     }
