@@ -1,5 +1,5 @@
 -- A call that no cause sends back: no cause holds.
-use Rattle.std.proofs.Common.{◌≡◌, ℕ, Bool, true, false, cond, Ok, Err, Result, refl, arith}
+use Rattle.std.proofs.Common.{◌≡◌, Bool, true, false, Ok, Err, Result, refl}
 use Rattle.orders.specs.declared.refusal.Refusal.{Refusal}
 use Rattle.terms.specs.declared.rejection.Rejection.{Rejection}
 use Rattle.book.specs.Causes.{Matter, unless, unless_rejected, and_then, handed_in, first_cause}

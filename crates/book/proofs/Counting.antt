@@ -1,5 +1,5 @@
 -- A reply counts the fills that its call has made.
-use Rattle.std.proofs.Common.{◌≡◌, ℕ, List, [], length, Ok, Err, Result, sym, refl, length-append}
+use Rattle.std.proofs.Common.{◌≡◌, ℕ, List, length, Ok, Err, Result, sym, refl, length-append}
 use Rattle.orders.specs.Rows.{entry_row}
 use Rattle.orders.specs.declared.call.Call.{Call}
 use Rattle.orders.specs.declared.call.Call.TheVariants as call

@@ -1,9 +1,8 @@
 -- What an entry leaves, step by step, and that a list with an entry for each place holds its fills.
-use Rattle.std.proofs.Common.{◌≡◌, ℕ, ◌+◌, ◌-◌, ◌<◌, ◌≤◌, Bool, true, false, cond, ◌&&◌, ltb, ◌⊎◌, List, ◌++◌, length, get_or, set, is_some, Some, None, Ok, Option, Result, sym, refl, ap, ◌∙◌, subst, inl, inr, ⊎_elim, arith}
-use Rattle.std.proofs.lemmas.List.{length-append}
+use Rattle.std.proofs.Common.{◌≡◌, ℕ, ◌+◌, ◌-◌, ◌≤◌, Bool, true, false, cond, ◌&&◌, ltb, List, length, set, is_some, Some, None, Ok, Option, Result, refl, ap, ◌∙◌, inl, ⊎_elim, arith}
 use Rattle.std.proofs.lemmas.Bool.{ltb-true, ltb-false, and_parts}
 use Rattle.orders.specs.Codes.{kind_of}
-use Rattle.orders.specs.Rows.{order_of, entry_row, cleared}
+use Rattle.orders.specs.Rows.{order_of, entry_row}
 use Rattle.orders.specs.declared.call.Fill.{Fill}
 use Rattle.orders.specs.declared.call.Receipt.{Receipt}
 use Rattle.orders.specs.declared.entry.Entry.{Entry}
@@ -20,7 +19,7 @@ use Rattle.places.specs.Places.{free_place, placed, left_at}
 use Rattle.book.specs.States.{State, Rules, market}
 use Rattle.places.specs.Remainders.{rests_as}
 use Rattle.book.specs.Causes.{entry_matter}
-use Rattle.book.specs.Calls.{tried, swept, stays_as, resting, entered_as, entered, entry_cause}
+use Rattle.book.specs.Calls.{tried, swept, stays_as, resting, entered, entry_cause}
 use Rattle.book.proofs.Admitted.{Clear, clear}
 
 -- what is tried and swept keeps to the number of orders

@@ -1,5 +1,5 @@
 -- What is tried and swept, by the matcher's own bounds.
-use Rattle.std.proofs.Common.{◌≡◌, ℕ, ◌+◌, ◌-◌, ◌<◌, ◌≤◌, Bool, true, false, cond, List, length, None, sym, refl, ap, ◌∙◌, arith}
+use Rattle.std.proofs.Common.{◌≡◌, ℕ, ◌+◌, ◌-◌, ◌≤◌, Bool, true, false, cond, List, length, None, sym, ap, ◌∙◌, arith}
 use Rattle.orders.specs.declared.row.Row.{Row}
 use Rattle.matching.specs.Runs.{Done, ended, run}
 use Rattle.matching.specs.Sweeps.{Swept, still, oldest, sweep, occupied}

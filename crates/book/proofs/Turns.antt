@@ -1,5 +1,5 @@
 -- An event that is sent back leaves the phase as it was, and its cause is the first of the table.
-use Rattle.std.proofs.Common.{◌≡◌, ℕ, Bool, true, false, not, ltb, List, length, Ok, Err, Result, sym, refl, ap, ◌∙◌}
+use Rattle.std.proofs.Common.{◌≡◌, ℕ, Bool, true, false, not, ltb, List, length, Ok, Err, sym, refl, ap, ◌∙◌}
 use Rattle.orders.specs.declared.refusal.Refusal.{Refusal}
 use Rattle.orders.specs.declared.refusal.Refusal.TheVariants.{WrongPhase}
 use Rattle.orders.specs.declared.row.Row.{Row}
@@ -10,7 +10,7 @@ use Rattle.places.specs.declared.phase.Phase.TheVariants.{Open, Halted, Closed}
 use Rattle.places.specs.Phases.{is_closed, fits, phase_after}
 use Rattle.places.specs.Shifts.{shift_cause}
 use Rattle.book.specs.States.{State}
-use Rattle.book.specs.Causes.{unless, and_then, handed_in, other_places, first_cause, event_matter}
+use Rattle.book.specs.Causes.{unless, and_then, handed_in, other_places}
 use Rattle.book.specs.Calls.{event_cause}
 
 misfit : (p : Phase) (e : Event) (x : Refusal) → is_closed p ≡ false → Err x ≡ shift_cause p e → (unless (not (fits p e)) WrongPhase (Ok tt) ≡ Err x) × (phase_after p e ≡ p)

@@ -1,5 +1,5 @@
 -- What each call replies, and what it leaves: the book, the places and its fills.
-use Rattle.std.specs.Prelude.{ℕ, ◌+◌, ◌-◌, Bool, true, false, cond, ◌&&◌, List, [], ◌∷◌, ◌++◌, length, is_some, Some, None, Ok, Err, Option, Result}
+use Rattle.std.specs.Prelude.{ℕ, ◌+◌, ◌-◌, Bool, true, false, cond, ◌&&◌, List, [], ◌++◌, length, is_some, None, Ok, Err, Option, Result}
 use Rattle.orders.specs.Codes.{kind_of}
 use Rattle.orders.specs.Quotes.{quote_of}
 use Rattle.orders.specs.Rows.{order_of, entry_row, cleared}

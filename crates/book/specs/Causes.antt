@@ -1,5 +1,5 @@
 -- The table of causes for which a call is sent back.
-use Rattle.std.specs.Prelude.{ℕ, Bool, true, false, cond, not, ◌&&◌, List, length, is_some, Some, None, Ok, Err, Option, Result, ◌==◌, nat_le, nat_lt}
+use Rattle.std.specs.Prelude.{ℕ, Bool, false, cond, not, ◌&&◌, List, length, is_some, Ok, Err, Result, ◌==◌, nat_le, nat_lt}
 use Rattle.orders.specs.Codes.{kind_of}
 use Rattle.orders.specs.Grid.{highest_price}
 use Rattle.orders.specs.Quotes.{quote_of}

@@ -1,5 +1,5 @@
 -- What a book knows between calls, and what it plays by.
-use Rattle.std.specs.Prelude.{ℕ, ◌+◌, Bool, cond, Some, None, Option, Result}
+use Rattle.std.specs.Prelude.{ℕ, ◌+◌, Bool, cond, None, Option, Result}
 use Rattle.orders.specs.Quotes.{lot_of}
 use Rattle.orders.specs.declared.entry.Entry.{Entry}
 use Rattle.orders.specs.declared.lot.Lot.{Lot}

@@ -1,5 +1,5 @@
 -- The verbs, the venues and the sides are taken just by their words.
-use Rattle.std.proofs.Common.{◌≡◌, ℕ, true, List, Ok, refl, arith}
+use Rattle.std.proofs.Common.{◌≡◌, ℕ, List, Ok, refl, arith}
 use Rattle.orders.specs.declared.side.Side.{Side}
 use Rattle.orders.specs.declared.side.Side.TheVariants.{Buy, Sell}
 use Rattle.venue.specs.declared.venue.Venue.{Venue}

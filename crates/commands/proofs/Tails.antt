@@ -3,7 +3,6 @@ use Rattle.std.proofs.Common.{◌≡◌, ℕ, ◌⊎◌, List, [], ◌∷◌, So
 use Rattle.orders.specs.Codes.{side_code}
 use Rattle.orders.specs.declared.entry.Entry.{Entry}
 use Rattle.orders.specs.declared.side.Side.{Side}
-use Rattle.orders.specs.declared.call.Call.{Call}
 use Rattle.orders.specs.declared.call.Call.TheVariants as call
 use Rattle.venue.specs.declared.venue.Venue.{Venue}
 use Rattle.reader.specs.Numbers.{number_of}
@@ -16,7 +15,7 @@ use Rattle.commands.specs.declared.command.Command.{Command}
 use Rattle.commands.specs.declared.command.Command.TheVariants.{Open, Make, Ask}
 use Rattle.verbs.specs.Vocabulary.{venue_of, side_of, venue_word, side_word}
 use Rattle.commands.specs.Commands.{Parsed, bind, number_then, end_then, open_by, quote_by, amend_by, enter_by, marks_by, marks_in, command_by}
-use Rattle.commands.specs.Written.{verb_in, Fit, EntryFits, entry_words, EntryWritten, CallTail, Tail}
+use Rattle.commands.specs.Written.{verb_in, Fit, EntryFits, entry_words, EntryWritten, Tail}
 use Rattle.commands.proofs.Next.{no_ok, bind_ok, first_is, no_pieces, number_then_ok, end_then_ok, word_then_ok, number_then_is, end_then_is, word_then_is}
 use Rattle.commands.proofs.Tables.{venues, sides}
 

@@ -1,9 +1,9 @@
 -- A line is taken as a command just when it is a written form of it.
-use Rattle.std.proofs.Common.{◌≡◌, ℕ, ◌≤◌, true, false, cond, ltb, List, ◌∷◌, length, Ok, Err, sym, ap, ◌∙◌, subst, ⊎_elim}
+use Rattle.std.proofs.Common.{◌≡◌, ℕ, ◌≤◌, ltb, List, ◌∷◌, length, Ok, Err, sym, ap, ◌∙◌, subst, ⊎_elim}
 use Rattle.std.proofs.lemmas.Bool.{cond-true, cond-false, ltb-false, le-ltb, cases_Bool}
 use Rattle.reader.specs.Faults.{longest_line}
 use Rattle.reader.specs.declared.fault.TextFault.TheVariants.{LongLine}
-use Rattle.reader.specs.Words.{Rest, onward, whole, texts, spaced, words_of}
+use Rattle.reader.specs.Words.{onward, whole, texts, spaced, words_of}
 use Rattle.reader.proofs.Spacing.{line_is, words_of_lem}
 use Rattle.commands.specs.declared.command.Command.{Command}
 use Rattle.verbs.specs.Vocabulary.{verb_of, verb_word}

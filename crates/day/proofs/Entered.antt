@@ -1,5 +1,5 @@
 -- An accepted entry keeps the law.
-use Rattle.std.proofs.Common.{◌≡◌, ℕ, ◌+◌, ◌-◌, ◌<◌, ◌≤◌, Bool, true, false, cond, not, ◌&&◌, eqb, ◌⊎◌, List, [], ◌++◌, length, get_or, set, is_some, Some, None, Ok, Option, sym, refl, ap, ◌∙◌, subst, inl, inr, ⊎_elim, arith}
+use Rattle.std.proofs.Common.{◌≡◌, ℕ, ◌+◌, ◌-◌, ◌≤◌, Bool, true, false, cond, not, ◌&&◌, eqb, ◌⊎◌, List, [], ◌++◌, length, get_or, set, is_some, Some, None, Ok, Option, sym, refl, ap, ◌∙◌, subst, inl, inr, ⊎_elim, arith}
 use Rattle.std.proofs.lemmas.List.{get_or-set_same, length-append, length-set}
 use Rattle.std.proofs.lemmas.Bool.{cases_eq, eq-eqb, ne_eqb, ltb-false, not-false, false≢true}
 use Rattle.orders.specs.Codes.{kind_of}
@@ -24,7 +24,7 @@ use Rattle.places.specs.Places.{free_place, placed, left_at}
 use Rattle.places.specs.Remainders.{rests_as}
 use Rattle.places.specs.declared.phase.Phase.{Phase}
 use Rattle.places.specs.declared.phase.Phase.TheVariants as phase
-use Rattle.book.specs.States.{State, Rules, stamped}
+use Rattle.book.specs.States.{State, Rules}
 use Rattle.book.specs.Causes.{entry_matter}
 use Rattle.book.specs.Calls.{tried, swept, stays_as, resting, entered}
 use Rattle.book.proofs.Admitted.{Clear}
@@ -32,7 +32,7 @@ use Rattle.day.specs.Sheets.{Orders, Sheet, put, written, took_all, leaves, acce
 use Rattle.day.specs.Fairness.{market_on, AllFair}
 use Rattle.day.specs.Trades.{IfOpen, Own, Traded}
 use Rattle.day.specs.Receipts.{Receipted}
-use Rattle.day.specs.Balances.{Tally, tallied, Balanced, held}
+use Rattle.day.specs.Balances.{Tally, tallied, Balanced}
 use Rattle.day.specs.Law.{Holds, Settled}
 use Rattle.day.proofs.Keeping.{state_on, Sound, Aside}
 use Rattle.day.proofs.Runnings.{run_law}

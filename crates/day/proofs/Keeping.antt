@@ -1,6 +1,6 @@
 -- What holds of the sheet and the places between two calls, and while an entered order is active.
 use Rattle.std.proofs.Common.{◌≡◌, ℕ, ◌<◌, ◌⊎◌, List, Some, None}
-use Rattle.orders.specs.Rows.{order_of, row_of, cleared}
+use Rattle.orders.specs.Rows.{row_of, cleared}
 use Rattle.orders.specs.declared.order.Order.{Order}
 use Rattle.orders.specs.declared.row.Row.{Row}
 use Rattle.book.specs.States.{State}

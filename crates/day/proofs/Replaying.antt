@@ -1,7 +1,6 @@
 -- A day that was played on a book that was just opened.
 use Rattle.std.proofs.Common.{◌≡◌, ℕ, Bool, true, cond, List, length, replicate, ap, ◌∙◌, subst}
 use Rattle.orders.specs.Rows.{cleared}
-use Rattle.orders.specs.declared.call.Fill.{Fill}
 use Rattle.orders.specs.declared.row.Row.{Row}
 use Rattle.matching.proofs.Foremost.{Lawful}
 use Rattle.book.specs.Causes.{openable}

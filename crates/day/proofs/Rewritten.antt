@@ -21,14 +21,14 @@ use Rattle.places.specs.declared.phase.Phase.{Phase}
 use Rattle.places.specs.declared.phase.Phase.TheVariants as phase
 use Rattle.book.specs.States.{State, Rules, with_phase, stamped_if}
 use Rattle.book.specs.Causes.{amend_matter, cancel_matter, event_matter}
-use Rattle.book.specs.Calls.{After, swept, settled, rewritten, amended_in, amended, cancelled_in, cancelled, quoted, withdrawn, turned}
+use Rattle.book.specs.Calls.{After, swept, settled, rewritten, amended_in, amended, cancelled, quoted, withdrawn, turned}
 use Rattle.book.proofs.Admitted.{Clear}
 use Rattle.day.specs.Sheets.{Orders, Sheet, put, amended_to, restamps, written, passing, leaves, accepted, left_of, takes_all}
 use Rattle.day.specs.Fairness.{market_on, AllFair}
 use Rattle.day.specs.Trades.{OwnFills}
 use Rattle.day.specs.Receipts as receipts
 use Rattle.day.specs.Receipts.{number_in, OrderTold}
-use Rattle.day.specs.Balances.{Tally, counted, with_fills, Balanced, held}
+use Rattle.day.specs.Balances.{Tally, counted, with_fills, Balanced}
 use Rattle.day.proofs.Keeping.{state_on, Sound}
 use Rattle.day.proofs.Looking.{some_is, place_holds, held_is}
 use Rattle.day.proofs.Putting.{put_same}

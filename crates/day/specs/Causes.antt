@@ -1,5 +1,5 @@
 -- What sends a call back, told of the sheet, the call and the lists handed in.
-use Rattle.std.specs.Prelude.{◌≡◌, ℕ, zero, suc, ◌+◌, ◌<◌, ◌≤◌, true, false, ◌⊎◌, List, [], ◌∷◌, ◌++◌, Some, None, Ok, Err, Option, Result, ◌≢◌}
+use Rattle.std.specs.Prelude.{◌≡◌, ℕ, zero, suc, ◌+◌, ◌<◌, ◌≤◌, true, ◌⊎◌, List, [], ◌∷◌, ◌++◌, Some, None, Err, Result, ◌≢◌}
 use Rattle.orders.specs.Codes.{kind_of}
 use Rattle.orders.specs.Quotes.{quote_of}
 use Rattle.orders.specs.Ranges.{last_stamp}

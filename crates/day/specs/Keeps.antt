@@ -1,5 +1,5 @@
 -- What a keeper keeps.
-use Rattle.std.specs.Prelude.{◌≡◌, Bool, false, List, [], ◌∷◌, ◌++◌, map, vec_items}
+use Rattle.std.specs.Prelude.{◌≡◌, false, List, [], ◌∷◌, ◌++◌, map, vec_items}
 use Rattle.day.specs.declared.keeper.KeptStep.{KeptStep}
 use Rattle.day.specs.declared.keeper.Keeper.{Keeper}
 use Rattle.day.specs.Steps.{Step}

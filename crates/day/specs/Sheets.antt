@@ -1,5 +1,5 @@
 -- The day sheet: what is known of a book from its calls and their returns alone.
-use Rattle.std.specs.Prelude.{ℕ, ◌+◌, Bool, true, false, cond, not, ◌||◌, List, [], ◌∷◌, Some, None, Ok, Err, Option, Result, ◌==◌}
+use Rattle.std.specs.Prelude.{ℕ, ◌+◌, Bool, false, cond, not, ◌||◌, List, [], ◌∷◌, Some, None, Ok, Err, Option, Result, ◌==◌}
 use Rattle.orders.specs.Codes.{kind_of}
 use Rattle.orders.specs.Quotes.{lot_of, quote_of}
 use Rattle.orders.specs.Rows.{order_of, row_of, entry_row}

@@ -1,5 +1,5 @@
 -- What a sink was handed.
-use Rattle.std.specs.Prelude.{◌≡◌, ℕ, Bool, true, false, List, [], ◌∷◌, ◌++◌}
+use Rattle.std.specs.Prelude.{◌≡◌, ℕ, Bool, false, List, [], ◌∷◌, ◌++◌}
 use Rattle.listing.specs.declared.line.Line.{Line}
 use Rattle.listing.specs.Lines.{line_bytes}
 

@@ -1,5 +1,5 @@
 -- How many places hold an order, and what a trade does to that.
-use Rattle.std.proofs.Common.{◌≡◌, ℕ, zero, suc, ◌+◌, ◌<◌, ◌≤◌, min, Bool, true, false, cond, ◌⊎◌, List, [], ◌∷◌, length, get_or, set, is_some, Some, None, Option, sym, refl, ap, ◌∙◌, inl, inr, ⊎_elim, le_of_suc-le-suc, not-suc-le-zero, arith}
+use Rattle.std.proofs.Common.{◌≡◌, ℕ, zero, suc, ◌+◌, ◌<◌, ◌≤◌, Bool, true, false, cond, ◌⊎◌, List, [], ◌∷◌, length, get_or, set, is_some, Some, Option, ap, ◌∙◌, inl, inr, ⊎_elim, le_of_suc-le-suc, not-suc-le-zero, arith}
 use Rattle.std.proofs.lemmas.List.{length-set, get_or-set_other}
 use Rattle.std.proofs.lemmas.Bool.{cases_lt}
 use Rattle.orders.specs.Rows.{order_of, row_of, cleared}
@@ -8,11 +8,10 @@ use Rattle.orders.specs.declared.row.Row.{Row}
 use Rattle.matching.specs.declared.meeting.Meeting.{Meeting}
 use Rattle.matching.specs.declared.meeting.Pair.{Pair}
 use Rattle.matching.specs.Market.{Market}
-use Rattle.matching.specs.Trades.{lessened, shares, left_active, left_passive}
+use Rattle.matching.specs.Trades.{shares, left_active, left_passive}
 use Rattle.matching.specs.Sweeps.{oldest, traded, occupied}
 use Rattle.matching.proofs.Rows.{lessened_all}
-use Rattle.matching.proofs.Chosen.{Meets}
-use Rattle.matching.proofs.Pairing.{Pairs, pair_is, pair_meets, pair_apart}
+use Rattle.matching.proofs.Pairing.{pair_is, pair_meets, pair_apart}
 
 -- 1 for a row that holds an order, 0 for any other
 abbrev pub one : Row → ℕ

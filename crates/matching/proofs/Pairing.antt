@@ -1,10 +1,9 @@
 -- The pair that the sweep takes: two orders in two places, the younger active.
-use Rattle.std.proofs.Common.{◌≡◌, ℕ, zero, suc, ◌+◌, ◌<◌, ◌≤◌, Bool, true, false, cond, ltb, ◌⊎◌, List, [], ◌∷◌, length, get_or, Some, None, Option, sym, refl, ap, ◌∙◌, subst, inl, inr, ⊎_elim, add-zero, add-suc, suc-add, zero-add, arith}
+use Rattle.std.proofs.Common.{◌≡◌, ℕ, suc, ◌+◌, ◌<◌, ltb, ◌⊎◌, List, [], ◌∷◌, length, get_or, Some, None, Option, sym, ap, ◌∙◌, subst, inl, inr, ⊎_elim, add-zero, add-suc, suc-add, zero-add, arith}
 use Rattle.orders.specs.Rows.{order_of, cleared}
 use Rattle.orders.specs.declared.order.Order.{Order}
 use Rattle.orders.specs.declared.row.Row.{Row}
 use Rattle.matching.specs.declared.meeting.Found.{Found}
-use Rattle.matching.specs.declared.meeting.Meeting.{Meeting}
 use Rattle.matching.specs.declared.meeting.Pair.{Pair}
 use Rattle.matching.specs.Market.{Market}
 use Rattle.matching.specs.Firsts.{first}

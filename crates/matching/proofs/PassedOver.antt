@@ -1,14 +1,13 @@
 -- A row that is passed over holds no candidate: terms deal only between opposite sides.
-use Rattle.std.proofs.Common.{◌≡◌, ℕ, ◌≤◌, Bool, true, false, cond, ◌||◌, eqb, ltb, leb, ◌⊎◌, is_some, Some, None, Option, sym, refl, ap, ◌∙◌, inl, inr, ⊎_elim, arith}
+use Rattle.std.proofs.Common.{◌≡◌, ℕ, Bool, true, false, cond, eqb, ltb, leb, is_some, Some, None, Option, refl, ap, ◌∙◌, ⊎_elim, arith}
 use Rattle.std.proofs.lemmas.Bool.{both_ways, or_cases, leb-true, eqb-true, le-ltb}
 use Rattle.orders.specs.Codes.{side_code}
-use Rattle.orders.specs.Rows.{order_of, row_of}
+use Rattle.orders.specs.Rows.{order_of}
 use Rattle.orders.specs.Sides.{opposite}
 use Rattle.orders.specs.declared.order.Order.{Order}
 use Rattle.orders.specs.declared.row.Row.{Row}
 use Rattle.orders.specs.declared.side.Side.{Side}
 use Rattle.orders.specs.declared.side.Side.TheVariants.{Buy, Sell}
-use Rattle.matching.specs.declared.meeting.Found.{Found}
 use Rattle.matching.specs.Market.{Market}
 use Rattle.matching.specs.Firsts.{priced, offered, candidate_at, passed_over}
 use Rattle.matching.proofs.Rows.{row_is}

@@ -1,5 +1,5 @@
 -- Rows that hold an order.
-use Rattle.std.proofs.Common.{◌≡◌, ℕ, ◌-◌, ◌<◌, ◌≤◌, Bool, true, false, cond, ltb, IfSome, Some, None, Option, sym, ap, ◌∙◌, subst, arith}
+use Rattle.std.proofs.Common.{◌≡◌, ℕ, ◌-◌, ◌≤◌, Bool, cond, IfSome, Some, Option, ap, subst}
 use Rattle.std.proofs.lemmas.Bool.{le-ltb}
 use Rattle.orders.specs.Rows.{order_of, row_of, cleared}
 use Rattle.orders.proofs.Decoding.{row_back}

@@ -1,13 +1,13 @@
 -- The turns of the loop in which an active order trades.
 use Rattle.std.proofs.Common.{◌≡◌, ℕ, zero, suc, ◌+◌, ◌-◌, ◌<◌, ◌≤◌, Bool, ◌||◌, List, [], ◌∷◌, ◌++◌, length, set, Some, None, sym, refl, ap, ◌∙◌, arith}
-use Rattle.std.proofs.lemmas.List.{append_assoc, append-nil, length_push}
+use Rattle.std.proofs.lemmas.List.{append_assoc, append-nil}
 use Rattle.orders.specs.declared.call.Fill.{Fill}
 use Rattle.orders.specs.declared.row.Row.{Row}
 use Rattle.matching.specs.declared.meeting.Meeting.{Meeting}
 use Rattle.matching.specs.Market.{Market}
 use Rattle.matching.specs.Trades.{fill_of, left_active, left_passive}
 use Rattle.matching.specs.Runs.{Done, meeting, touches, passed, ended, after, turn, run, written}
-use Rattle.matching.proofs.Laying.{Laid, laid_none, laid_more}
+use Rattle.matching.proofs.Laying.{Laid, laid_more}
 
 module _ (m : Market) where
   pub run_none : (n : ℕ) (b : Bool) (r : Row) (rows : List Row) → meeting m b r rows ≡ None → run m n b r rows ≡ ended r rows

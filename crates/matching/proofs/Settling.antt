@@ -1,12 +1,12 @@
 -- How many fills a sweep makes, and that it leaves no pair.
-use Rattle.std.proofs.Common.{◌≡◌, ℕ, zero, suc, ◌+◌, ◌-◌, ◌<◌, ◌≤◌, ◌⊎◌, List, [], ◌∷◌, ◌++◌, length, set, Some, None, Option, sym, refl, ap, ◌∙◌, inl, inr, ⊎_elim, suc-add, arith}
+use Rattle.std.proofs.Common.{◌≡◌, ℕ, zero, suc, ◌+◌, ◌-◌, ◌≤◌, ◌⊎◌, List, [], ◌∷◌, ◌++◌, length, set, Some, None, Option, sym, refl, ap, ◌∙◌, inl, inr, ⊎_elim, suc-add, arith}
 use Rattle.std.proofs.lemmas.List.{length-set}
 use Rattle.std.proofs.lemmas.Bool.{cases_lt}
 use Rattle.orders.specs.declared.row.Row.{Row}
 use Rattle.matching.specs.declared.meeting.Pair.{Pair}
 use Rattle.matching.specs.Market.{Market}
 use Rattle.matching.specs.Trades.{fill_of, left_active, left_passive}
-use Rattle.matching.specs.Sweeps.{Swept, oldest, traded, still, round, sweep, occupied}
+use Rattle.matching.specs.Sweeps.{Swept, oldest, traded, round, sweep, occupied}
 use Rattle.matching.proofs.Occupied.{pair_two, traded_fewer}
 use Rattle.matching.proofs.Sweeping.{sweep_none, sweep_some}
 

@@ -1,15 +1,13 @@
 -- How many fills an active order makes, and that it comes to an end.
-use Rattle.std.proofs.Common.{◌≡◌, ℕ, zero, suc, ◌+◌, ◌-◌, ◌<◌, ◌≤◌, Bool, ◌||◌, ◌⊎◌, List, [], ◌∷◌, ◌++◌, length, get_or, set, Some, None, Option, sym, refl, ap, ◌∙◌, inl, inr, ⊎_elim, add-zero, add-suc, suc-add, zero-add, arith}
+use Rattle.std.proofs.Common.{◌≡◌, ℕ, zero, suc, ◌+◌, ◌-◌, ◌<◌, ◌≤◌, Bool, ◌||◌, List, [], ◌∷◌, ◌++◌, length, get_or, Some, None, Option, sym, refl, ap, ◌∙◌, ⊎_elim, suc-add, arith}
 use Rattle.std.proofs.lemmas.List.{length-set}
-use Rattle.orders.specs.Rows.{order_of, cleared}
-use Rattle.orders.specs.declared.call.Fill.{Fill}
+use Rattle.orders.specs.Rows.{cleared}
 use Rattle.orders.specs.declared.row.Row.{Row}
 use Rattle.matching.specs.declared.meeting.Meeting.{Meeting}
 use Rattle.matching.specs.Market.{Market}
 use Rattle.matching.specs.Trades.{fill_of, left_active, left_passive}
-use Rattle.matching.specs.Runs.{Done, meeting, touches, passed, ended, turn, run}
+use Rattle.matching.specs.Runs.{Done, meeting, touches, passed, turn, run}
 use Rattle.matching.specs.Sweeps.{occupied}
-use Rattle.matching.proofs.Options.{none_some}
 use Rattle.matching.proofs.Chosen.{Meets, first_is, Next, meeting_is}
 use Rattle.matching.proofs.Running.{run_none, run_some}
 use Rattle.matching.proofs.Occupied.{one, one_most, one_is, occupied_most, occupied_set, spends}

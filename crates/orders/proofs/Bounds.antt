@@ -1,16 +1,15 @@
 -- What the ranges of orders, quotes and lots say in numbers.
-use Rattle.std.proofs.Common.{◌≡◌, ℕ, ◌<◌, ◌≤◌, Bool, true, ◌&&◌, arith}
+use Rattle.std.proofs.Common.{◌≡◌, ℕ, ◌<◌, ◌≤◌, Bool, true, arith}
 use Rattle.std.proofs.lemmas.Bool.{and_parts, and_from, ltb-true}
 use Rattle.std.proofs.lemmas.Bool.Decides.{nat_tests}
-use Rattle.orders.specs.Grid.{on_grid, is_lot, highest_price}
-use Rattle.orders.specs.Kinds.{limit_fits, most_shares}
-use Rattle.orders.specs.Ranges.{order_fits, plain_fits, kind_fits, shares_fit}
+use Rattle.orders.specs.Grid.{on_grid}
+use Rattle.orders.specs.Kinds.{limit_fits}
+use Rattle.orders.specs.Ranges.{order_fits, plain_fits, kind_fits}
 use Rattle.orders.specs.declared.kind.Kind.{Kind}
 use Rattle.orders.specs.declared.kind.Kind.TheVariants.{Limit, LimitAtOnce, Market, MiddlePeg, MinimumImprovement, MinimumEach, MinimumSum, SeekImprovement}
 use Rattle.orders.specs.declared.order.Order.{Order}
 use Rattle.orders.specs.declared.price.Price.{Price}
 use Rattle.orders.specs.declared.quote.Quote.{Quote}
-use Rattle.orders.specs.declared.lot.Lot.{Lot}
 
 grid_between : (n : ℕ) → on_grid n ≡ true → (2 ≤ n) × (n ≤ 4000000)
 grid_between n h = (grind (arith, nat_tests), grind (arith, nat_tests))

@@ -1,11 +1,11 @@
 -- The row of an order decodes to that order, and a row decodes just when every field is in its range.
-use Rattle.std.proofs.Common.{◌≡◌, ℕ, ◌≤◌, Bool, true, false, cond, not, ◌&&◌, ◌||◌, eqb, leb, is_some, IfSome, Some, None, Option, sym, refl, ap, ◌∙◌, arith}
+use Rattle.std.proofs.Common.{◌≡◌, ℕ, Bool, true, false, ◌&&◌, ◌||◌, eqb, leb, is_some, IfSome, Some, None, Option, refl, ap, ◌∙◌, arith}
 use mathlib.Core.Bool.{Bool-set}
 use Rattle.std.proofs.lemmas.Bool.{both_ways}
 use Rattle.std.proofs.lemmas.Bool.Decides.{nat_tests}
 use Rattle.orders.specs.Codes.{side_code, kind_code, mark_code, hidden_code, side_of, kind_of, mark_of, hidden_of}
 use Rattle.orders.specs.Ranges.{order_fits, kind_fits, plain_fits}
-use Rattle.orders.specs.Rows.{row_of, order_of, fits_as, ordered, decoded, codes_fit, kind_numbers_fit, row_fits}
+use Rattle.orders.specs.Rows.{row_of, order_of, fits_as, ordered, decoded, kind_numbers_fit, row_fits}
 use Rattle.orders.specs.declared.side.Side.{Side}
 use Rattle.orders.specs.declared.side.Side.TheVariants.{Buy, Sell}
 use Rattle.orders.specs.declared.kind.Kind.{Kind}

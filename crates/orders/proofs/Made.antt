@@ -1,5 +1,5 @@
 -- A price, a lot and a quote are what their numbers make them: a test has one proof at most.
-use Rattle.std.proofs.Common.{◌≡◌, ℕ, Bool, true, false, ◌&&◌, ltb, is_some, Some, None, Option, refl, ap}
+use Rattle.std.proofs.Common.{◌≡◌, ℕ, Bool, true, false, ◌&&◌, ltb, is_some, Some, refl, ap}
 use mathlib.Core.Path.{path_j}
 use mathlib.Core.Bool.{Bool-set}
 use Rattle.std.proofs.lemmas.Bool.{both_ways}
@@ -7,7 +7,6 @@ use Rattle.orders.specs.Grid.{on_grid, is_lot}
 use Rattle.orders.specs.Quotes.{price_if, price_of, quote_if, quote_by, quote_of}
 use Rattle.orders.specs.declared.price.Price.{Price}
 use Rattle.orders.specs.declared.lot.Lot.{Lot}
-use Rattle.orders.specs.declared.quote.Quote.{Quote}
 
 price_if_lem : (n : ℕ) (p : Bool) (e : on_grid n ≡ p) (t : on_grid n ≡ true) → price_if n p e ≡ Some (record { quarters = n; ok = t })
 price_if_lem n true e t = ap (λ q. Some (record { quarters = n; ok = q })) (Bool-set _ _ e t)

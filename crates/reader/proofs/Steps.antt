@@ -4,7 +4,7 @@ use Rattle.std.proofs.lemmas.List.{drop_all, drop-drop, length-drop, take_all}
 use Rattle.std.proofs.lemmas.Bool.{eq-eqb, ne_eqb, cond-true, cond-false, lt-ltb, le-ltb, cases_lt}
 use Rattle.reader.specs.Lines.{line_end, before, past, lines, longer}
 use Rattle.reader.specs.Numbers.{number_of}
-use Rattle.reader.specs.Words.{space, Piece, piece, pieces, wider, words_from, named, Rest, token_in, token, others, onward}
+use Rattle.reader.specs.Words.{space, Piece, piece, pieces, wider, words_from, named, token_in, token, others, onward}
 
 pub before_here : (c i : ℕ) (s : List ℕ) → i < length s → get_or s i 0 ≡ c → before c (drop i s) ≡ 0
 before_here c i s h e = rw (drop-cons s i 0) (cond-true _ _ _ (eq-eqb _ _ e))

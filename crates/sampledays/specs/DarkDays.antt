@@ -1,5 +1,5 @@
 -- Days in the dark book at a last sale of 4040, where the lot is 100.
-use Rattle.std.specs.Prelude.{ℕ, List, [], ◌∷◌, ◌++◌}
+use Rattle.std.specs.Prelude.{List, [], ◌∷◌, ◌++◌}
 use Rattle.orders.specs.declared.call.Call.TheVariants.{Cancel}
 use Rattle.terms.specs.Dark.{dark_deal, dark_verdict}
 use Rattle.priority.specs.Ranking.{time_before}

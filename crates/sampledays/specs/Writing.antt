@@ -1,9 +1,8 @@
 -- Short ways to write the steps of a day.
-use Rattle.std.specs.Prelude.{ℕ, List, [], ◌∷◌, length, Ok, Err, Result}
+use Rattle.std.specs.Prelude.{ℕ, List, [], length, Ok, Err}
 use Rattle.orders.specs.declared.call.Call.{Call}
 use Rattle.orders.specs.declared.call.Call.TheVariants as call
 use Rattle.orders.specs.declared.call.Fill.{Fill}
-use Rattle.orders.specs.declared.call.Receipt.{Receipt}
 use Rattle.orders.specs.declared.refusal.Refusal.{Refusal}
 use Rattle.orders.specs.declared.side.Side.TheVariants.{Buy, Sell}
 use Rattle.sampledays.specs.Playing.{Step}

@@ -1,5 +1,5 @@
 -- The desk after a command, by what the book's calls gave.
-use Rattle.std.proofs.Common.{◌≡◌, ℕ, ◌+◌, ◌<◌, ◌≤◌, Bool, true, false, cond, leb, List, ◌++◌, length, take, drop, replicate, Some, None, Ok, Err, Option, Result, sym, refl, ap, ◌∙◌, ⊎_elim, append-nil, zero-add, arith, length-take-le, take_at}
+use Rattle.std.proofs.Common.{◌≡◌, ℕ, ◌+◌, Bool, true, cond, leb, List, ◌++◌, length, take, drop, replicate, Some, Ok, Option, Result, sym, refl, ap, ◌∙◌, ⊎_elim, append-nil, arith, length-take-le, take_at}
 use lib.ListN.{length-replicate}
 use Rattle.std.proofs.lemmas.List.{take_all, drop_all}
 use Rattle.std.proofs.lemmas.Bool.{and_parts, cases_lt}
@@ -15,7 +15,7 @@ use Rattle.venue.specs.declared.ranking.Ranking.{Ranking}
 use Rattle.venue.specs.declared.venue.Venue.{Venue}
 use Rattle.book.specs.Causes.{openable}
 use Rattle.book.specs.States.{State, state_of, opened}
-use Rattle.book.specs.Calls.{After, count_in, answer}
+use Rattle.book.specs.Calls.{count_in}
 use Rattle.book.specs.declared.book.Book.{Book}
 use Rattle.book.proofs.Counting.{answer_counts, answer_places}
 use Rattle.session.specs.Desks.{Desk, rules_by, desk_in, desk_by, can_open}

@@ -1,5 +1,5 @@
 -- A book's places are the first of the session's rows.
-use Rattle.std.proofs.Common.{◌≡◌, ℕ, ◌<◌, ◌≤◌, Bool, true, false, cond, ◌&&◌, leb, List, ◌++◌, length, take, drop, replicate, Ok, Err, Result, sym, refl, ap, ◌∙◌, arith, take-append-drop, length-take-le, MatchResult}
+use Rattle.std.proofs.Common.{◌≡◌, ℕ, ◌<◌, ◌≤◌, Bool, true, false, cond, ◌&&◌, List, ◌++◌, length, take, drop, replicate, Ok, Err, Result, sym, refl, ap, ◌∙◌, arith, take-append-drop, length-take-le, MatchResult}
 use Rattle.std.proofs.lemmas.Bool.{le-leb, lt-leb}
 use Rattle.orders.specs.Rows.{cleared}
 use Rattle.orders.specs.declared.refusal.Refusal.{Refusal}

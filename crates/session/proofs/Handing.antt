@@ -1,5 +1,5 @@
 -- What a sink was handed, one line or one list of lines after another.
-use Rattle.std.proofs.Common.{◌≡◌, ℕ, suc, ◌+◌, ◌<◌, ◌≤◌, false, List, [], ◌∷◌, ◌++◌, length, get_or, take, IfOk, Ok, Err, string_bytes, Option, Result, sym, refl, ap, ◌∙◌, subst, append_assoc, append-nil, arith, MatchResult}
+use Rattle.std.proofs.Common.{◌≡◌, ℕ, ◌+◌, ◌<◌, ◌≤◌, false, List, [], ◌∷◌, ◌++◌, length, get_or, take, IfOk, Ok, Err, string_bytes, Option, Result, sym, refl, ap, ◌∙◌, subst, append_assoc, append-nil, MatchResult}
 use Rattle.std.proofs.lemmas.List.{take_more, take_all}
 use Rattle.orders.specs.declared.call.Fill.{Fill}
 use Rattle.listing.specs.declared.keeper.Keeper.{Keeper}

@@ -4,7 +4,7 @@ use Rattle.std.specs.Prelude.{◌≡◌, ℕ, ◌≤◌, Bool, true, false, cond
 use Rattle.std.proofs.Common.{arith}
 use Rattle.std.proofs.lemmas.Bool.{and_parts, and_from, or_left}
 use Rattle.std.proofs.lemmas.Bool.Decides.{nat_tests}
-use Rattle.orders.specs.Codes.{side_of, kind_of, mark_of, hidden_of}
+use Rattle.orders.specs.Codes.{kind_of, hidden_of}
 use Rattle.orders.specs.Kinds.{limit_fits, minimum_fits, hides}
 use Rattle.orders.specs.Ranges.{shares_fit, kind_fits}
 use Rattle.orders.specs.Rows.{order_of, entry_row, fits_as}

@@ -1,6 +1,5 @@
 use Rattle.std.proofs.Common.{◌≡◌, ℕ, ◌-◌, min, List, ◌++◌, length, take, drop, ap, ◌∙◌, arith}
 use Rattle.std.proofs.lemmas.List.{length-take}
-use Rattle.orders.specs.declared.call.Fill.{Fill}
 use Rattle.orders.specs.declared.row.Row.{Row}
 use Rattle.matching.specs.Runs.{written}
 use Rattle.book.specs.States.{state_of, rules_of}

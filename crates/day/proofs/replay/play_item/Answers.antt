@@ -1,5 +1,4 @@
-use Rattle.std.proofs.Common.{◌≡◌, ℕ, min, List, length, take, drop, ap, ◌∙◌, subst}
-use Rattle.orders.specs.declared.call.Fill.{Fill}
+use Rattle.std.proofs.Common.{◌≡◌, min, length, take, drop, ap, ◌∙◌, subst}
 use Rattle.book.specs.States.{state_of, rules_of}
 use Rattle.book.specs.Calls.{count_in}
 use Rattle.book.proofs.Counting.{answer_counts}

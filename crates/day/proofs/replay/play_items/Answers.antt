@@ -1,4 +1,4 @@
-use Rattle.std.proofs.Common.{◌≡◌, length, ◌∙◌, arith}
+use Rattle.std.proofs.Common.{length, ◌∙◌}
 use Rattle.book.specs.States.{state_of, rules_of}
 use Rattle.day.proofs.Playing.{Stand, rules_same, turn_under, going_more, gone}
 use Rattle.day.proofs.replay.play_items.Goals as goal

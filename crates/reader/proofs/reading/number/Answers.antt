@@ -1,4 +1,4 @@
-use Rattle.std.proofs.Common.{◌≡◌, sym, ◌∙◌}
+use Rattle.std.proofs.Common.{sym, ◌∙◌}
 use Rattle.std.proofs.lemmas.Bool.{cond-false}
 use Rattle.reader.proofs.Numbers.{turn_more, turn_none, refused, done, written}
 use Rattle.reader.proofs.reading.number.Goals as goal

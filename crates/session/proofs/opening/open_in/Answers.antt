@@ -1,4 +1,4 @@
-use Rattle.std.proofs.Common.{◌≡◌, ℕ, ◌-◌, ◌≤◌, length, take, sym, ap, ◌∙◌, arith}
+use Rattle.std.proofs.Common.{◌≡◌, ◌-◌, ◌≤◌, length, take, sym, ap, ◌∙◌, arith}
 use Rattle.venue.specs.Rankings.{ranking_of}
 use Rattle.book.specs.Causes.{openable}
 use Rattle.session.proofs.Fronts.{can_open_lem, front_long, opened_rows, opened_book}

@@ -1,4 +1,4 @@
-use Rattle.std.proofs.Common.{◌≡◌, ◌-◌, ◌≤◌, length, Ok, refl, ap, ◌∙◌, arith, rules}
+use Rattle.std.proofs.Common.{◌≡◌, ◌-◌, ◌≤◌, length, Ok, refl, ap, ◌∙◌, arith}
 use Rattle.matching.specs.Runs.{written}
 use Rattle.book.specs.States.{state_of, rules_of}
 use Rattle.book.specs.Calls.{tried}

@@ -2,7 +2,7 @@ use Rattle.std.proofs.Common.{◌≤◌, length, Ok, ap, ◌∙◌, arith}
 use Rattle.matching.specs.Runs.{written}
 use Rattle.book.specs.States.{state_of, rules_of}
 use Rattle.book.specs.Calls.{swept}
-use Rattle.book.proofs.Settled.{settle_room, settle_few, rewrite_rows, rewrite_reply}
+use Rattle.book.proofs.Settled.{settle_room, settle_few, rewrite_reply}
 use Rattle.book.proofs.book.Book.rewrite.Goals as goal
 
 pub swept-count-requires : goal.swept-count-requires

@@ -1,4 +1,4 @@
-use Rattle.std.proofs.Common.{◌≡◌, ◌+◌, length, sym, refl, ap, ◌∙◌, arith}
+use Rattle.std.proofs.Common.{◌≡◌, ◌+◌, length, sym, ap, ◌∙◌, arith}
 use Rattle.matching.specs.Runs.{written}
 use Rattle.matching.proofs.Laying.{written_none}
 use Rattle.book.specs.States.{state_of, rules_of}

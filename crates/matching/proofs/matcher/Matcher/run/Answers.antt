@@ -1,7 +1,7 @@
-use Rattle.std.proofs.Common.{◌<◌, ◌≤◌, length, sym, ◌∙◌, arith, rules}
+use Rattle.std.proofs.Common.{◌<◌, ◌≤◌, length, sym, arith, rules}
 use Rattle.matching.specs.Market.{market_of}
 use Rattle.matching.proofs.Chosen.{meeting_within}
-use Rattle.matching.proofs.Running.{Going, going_more, going_stops, going_full}
+use Rattle.matching.proofs.Running.{going_more, going_stops, going_full}
 use Rattle.matching.proofs.matcher.Matcher.run.Goals as goal
 
 pub bounds-places-meeting : goal.bounds-places-meeting

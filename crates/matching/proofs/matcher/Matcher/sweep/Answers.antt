@@ -1,8 +1,8 @@
-use Rattle.std.proofs.Common.{◌<◌, ◌≤◌, length, sym, ◌∙◌, arith, rules}
+use Rattle.std.proofs.Common.{◌<◌, ◌≤◌, length, sym, arith, rules}
 use Rattle.std.proofs.lemmas.List.{length-set}
 use Rattle.matching.specs.Market.{market_of}
-use Rattle.matching.proofs.Pairing.{Pairs, pair_is, pair_meets}
-use Rattle.matching.proofs.Sweeping.{Sweeping, sweeping_none, sweeping_more, sweeping_stops, sweeping_full}
+use Rattle.matching.proofs.Pairing.{pair_is, pair_meets}
+use Rattle.matching.proofs.Sweeping.{sweeping_none, sweeping_more, sweeping_stops, sweeping_full}
 use Rattle.matching.proofs.matcher.Matcher.sweep.Goals as goal
 
 pub bounds-places-pair : goal.bounds-places-pair

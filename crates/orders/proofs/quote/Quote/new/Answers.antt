@@ -1,4 +1,4 @@
-use Rattle.std.proofs.Common.{◌≡◌, is_some, sym, ap, ◌∙◌}
+use Rattle.std.proofs.Common.{is_some, ap, ◌∙◌}
 use Rattle.orders.proofs.Made.{quote_is, quote_test}
 use Rattle.orders.proofs.quote.Quote.new.Goals as goal
 

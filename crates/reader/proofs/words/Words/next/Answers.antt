@@ -1,4 +1,4 @@
-use Rattle.std.proofs.Common.{◌≡◌, length, sym, ap, ◌∙◌}
+use Rattle.std.proofs.Common.{length, sym, ap, ◌∙◌}
 use Rattle.reader.specs.Seen.{left}
 use Rattle.reader.proofs.Steps.{word_more, word_last, one_on}
 use Rattle.reader.proofs.words.Words.next.Goals as goal

@@ -1,4 +1,4 @@
-use Rattle.std.proofs.Common.{◌≡◌, length, sym, ◌∙◌, rules}
+use Rattle.std.proofs.Common.{◌≡◌, length, sym, rules}
 use Rattle.session.proofs.Desking.{made_reply, made_desk, made_fills}
 use Rattle.session.proofs.session.Session.make.Goals as goal
 
