@@ -123,7 +123,7 @@ module _ (places next k : ℕ) (r : Row) (x : Orders) (rows : List Row) (aside :
   told_left true place f h stays zero = told_if place (f refl) h stays zero aside.active
   told_left false place f h stays zero = left_not place rows' ∙ sym (zero (ap left_of (put_same k None x k refl)))
 
--- of an at_once entry is cancelled what did not fill
+-- of an at-once entry is cancelled what did not fill
 cancelled_is : (b : Bool) (left told shares own swept : ℕ) → shares ≡ own + left → left ≡ told + cond {A = ℕ} b 0 left → (b ≡ false → swept ≡ 0) → cond {A = ℕ} b 0 left ≡ cond {A = ℕ} b 0 (shares - (own + swept))
 cancelled_is true left told shares own swept e f g = refl
 cancelled_is false left told shares own swept e f g = omega (arith, g refl)
