@@ -32,7 +32,7 @@ fn kept_step(
     fills: &[Fill],
     places: &[Row],
 ) -> Result<KeptStep, AllocError>
-    ensures { IfOk result (λ k. step_in k ≡ record { item = item.entry.now; reply = reply.now; fills = fills.now; rows = places.now }) }
+    ensures { IfOk result (λ k. step_in k ≡ record { item = item.now; reply = reply.now; fills = fills.now; rows = places.now }) }
 {
     let own_fills = Vec::from_slice(heap, fills)?;
     let own_places = Vec::from_slice(heap, places)?;

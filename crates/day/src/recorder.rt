@@ -11,5 +11,5 @@ pub trait Recorder {
 
     // Takes a call, its reply, its fills and all the places after it. It cannot fail: a recorder remembers what went wrong.
     fn note(&mut self, item: &Item, reply: &Reply, fills: &[Fill], places: &[Row])
-        ensures { notes self.old (record { item = item.entry.now; reply = reply.now; fills = fills.now; rows = places.now }) self.new };
+        ensures { notes self.old (record { item = item.now; reply = reply.now; fills = fills.now; rows = places.now }) self.new };
 }

@@ -53,7 +53,7 @@ fn answer_item<P: Priority, T: Terms>(
 
 // Tells the recorder of a call: all the places, whatever the call handed in.
 fn tell<R: Recorder>(recorder: &mut R, item: &Item, reply: &Reply, fills: &[Fill], places: &[Row])
-    ensures { R.Recorder.notes recorder.old (record { item = item.entry.now; reply = reply.now; fills = fills.now; rows = places.now }) recorder.new }
+    ensures { R.Recorder.notes recorder.old (record { item = item.now; reply = reply.now; fills = fills.now; rows = places.now }) recorder.new }
 {
     recorder.note(item, reply, fills, places);
 }
