@@ -1,5 +1,5 @@
-// The practice market, as far as it is built: plays a short day in a lit book and one in a dark book, and then some
-// edges of the calls, and prints for each call its reply and its fills.
+// Plays a short day in a lit book and one in a dark book, and then some edges of the calls, straight on the book, and
+// prints for each call its reply and its fills.
 #![tactic(auto)]
 
 mod days;

@@ -1,6 +1,6 @@
 -- A book's places are the first of the session's rows.
-use Rattle.std.proofs.Common.{◌≡◌, ℕ, ◌<◌, ◌≤◌, Bool, true, false, cond, ◌&&◌, List, ◌++◌, length, take, drop, replicate, Ok, Err, Result, sym, refl, ap, ◌∙◌, arith, take-append-drop, length-take-le, MatchResult}
-use Rattle.std.proofs.lemmas.Bool.{le-leb, lt-leb}
+use Rattle.std.proofs.Common.{◌≡◌, ℕ, ◌≤◌, Bool, true, false, cond, ◌&&◌, List, ◌++◌, length, take, drop, replicate, Ok, Err, Result, sym, refl, ap, ◌∙◌, arith, take-append-drop, length-take-le, MatchResult}
+use Rattle.std.proofs.lemmas.Bool.{le-leb}
 use Rattle.orders.specs.Rows.{cleared}
 use Rattle.orders.specs.declared.refusal.Refusal.{Refusal}
 use Rattle.orders.specs.declared.refusal.Refusal.TheVariants.{WrongOpening}
@@ -16,15 +16,8 @@ and_true : (b : Bool) → (b && true) ≡ b
 and_true true = refl
 and_true false = refl
 
-and_false : (b : Bool) → (b && false) ≡ false
-and_false true = refl
-and_false false = refl
-
 pub can_open_lem : (last n there : ℕ) → n ≤ there → can_open last n there ≡ openable last n
 can_open_lem last n there h = ap (λ (b : Bool). openable last n && b) (le-leb n there h) ∙ and_true (openable last n)
-
-pub cannot_open : (last n there : ℕ) → there < n → can_open last n there ≡ false
-cannot_open last n there h = ap (λ (b : Bool). openable last n && b) (lt-leb n there h) ∙ and_false (openable last n)
 
 -- so many of the rows are there
 pub front_long : (k n : ℕ) (rows : List Row) → k ≡ n → n ≤ length rows → length (take k rows) ≡ n
