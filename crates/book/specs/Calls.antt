@@ -1,5 +1,5 @@
 -- What each call replies, and what it leaves: the book, the places and its fills.
-use Rattle.std.specs.Prelude.{ℕ, ◌+◌, ◌-◌, Bool, true, false, cond, ◌&&◌, List, [], ◌++◌, length, is_some, None, Ok, Err, Option, Result}
+use Rattle.std.specs.Prelude.{◌≡◌, ℕ, ◌+◌, ◌-◌, ◌≤◌, Bool, true, false, cond, ◌&&◌, List, [], ◌++◌, length, is_some, None, Ok, Err, Option, Result, IfOk}
 use Rattle.orders.specs.Codes.{kind_of}
 use Rattle.orders.specs.Quotes.{quote_of}
 use Rattle.orders.specs.Rows.{order_of, entry_row, cleared}
@@ -10,14 +10,17 @@ use Rattle.orders.specs.declared.call.Receipt.{Receipt}
 use Rattle.orders.specs.declared.entry.Entry.{Entry}
 use Rattle.orders.specs.declared.refusal.Refusal.{Refusal}
 use Rattle.orders.specs.declared.row.Row.{Row}
-use Rattle.matching.specs.Runs.{Done, ended, run}
+use Rattle.terms.specs.declared.terms.Terms.{Ghosts as Terms}
+use Rattle.priority.specs.declared.priority.Priority.{Ghosts as Priority}
+use Rattle.matching.specs.Runs.{Done, ended, run, written}
 use Rattle.matching.specs.Sweeps.{Swept, still, sweep}
 use Rattle.places.specs.declared.phase.Event.{Event}
 use Rattle.places.specs.declared.phase.Event.TheVariants.{Halt, Resume, Close}
 use Rattle.places.specs.Phases.{is_open, phase_after}
 use Rattle.places.specs.Places.{free_place, place_of, row_at, placed, left_at}
-use Rattle.book.specs.States.{State, Rules, market, with_quote, with_phase, stamped, stamped_if}
-use Rattle.places.specs.Amendments.{loses_time, amended_row}
+use Rattle.book.specs.declared.book.Book.{Book}
+use Rattle.book.specs.States.{State, Rules, state_of, priority_of, terms_of, rules_in, market, with_quote, with_phase, stamped, stamped_if}
+use Rattle.orders.specs.Amendments.{loses_time, amended_row}
 use Rattle.places.specs.Remainders.{rests_as}
 use Rattle.book.specs.Causes.{first_cause, entry_matter, quote_matter, withdraw_matter, amend_matter, cancel_matter, event_matter, ask_matter}
 
@@ -170,7 +173,7 @@ event u s e entries rows = decided (event_cause s e entries rows) s rows (turned
 -- any call
 abbrev pub answer : Rules → State → Call → (entries : ℕ) → List Row → After
 answer u s (call.Enter e) entries rows = enter u s e entries rows
-answer u s (call.Amend number shares limit) entries rows = amend u s number shares limit entries rows
+answer u s (call.Amend a) entries rows = amend u s a.number a.shares a.limit entries rows
 answer u s (call.Cancel number) entries rows = cancel u s number entries rows
 answer u s (call.Quote bid offer) entries rows = quote u s bid offer entries rows
 answer u s call.Withdraw entries rows = withdraw u s entries rows
@@ -185,3 +188,14 @@ answered (Err x) number left = Err x
 
 abbrev pub ask : State → (number : ℕ) → List Row → Result Receipt Refusal
 ask s number rows = answered (first_cause (ask_matter s number rows)) number (left_at (place_of number rows) true rows)
+
+-- what a call replies and leaves behind: `call` says it of the rules, the state, the length of the list of fills, and the places
+pub record Leaves {P T : Type 0} (priority : Priority P) (terms : Terms T) (call : Rules → State → (entries : ℕ) → List Row → After)
+    (old new : Book P T) (old_rows new_rows : List Row) (old_fills new_fills : List Fill) (result : Result Receipt Refusal) : Type 0 where
+  pub reply : result ≡ (call (rules_in priority terms old) (state_of old) (length old_fills) old_rows).reply
+  pub state : state_of new ≡ (call (rules_in priority terms old) (state_of old) (length old_fills) old_rows).state
+  pub rules : (priority_of new ≡ priority_of old) × (terms_of new ≡ terms_of old)
+  pub places : new_rows ≡ (call (rules_in priority terms old) (state_of old) (length old_fills) old_rows).rows
+  -- the list of fills stays behind those of the call
+  pub fills : new_fills ≡ written 0 (call (rules_in priority terms old) (state_of old) (length old_fills) old_rows).fills old_fills
+  pub few : IfOk result (λ x. x.fills ≤ length old_rows)

@@ -13,7 +13,7 @@ use Rattle.terms.specs.declared.rejection.Rejection.{Rejection}
 use Rattle.places.specs.declared.phase.Event.{Event}
 use Rattle.places.specs.Phases.{is_halted, is_closed, fits}
 use Rattle.places.specs.Places.{free_place, place_of, row_at}
-use Rattle.places.specs.Amendments.{amended_entry, loses_time}
+use Rattle.orders.specs.Amendments.{amended_entry, loses_time}
 use Rattle.places.specs.Remainders.{rests_as, at_once_as}
 use Rattle.book.specs.States.{State, Rules}
 
@@ -62,110 +62,65 @@ first_cause c =
 abbrev pub other_places : State → List Row → Bool
 other_places s rows = not (length rows == s.places)
 
--- an entry, with so many fill entries handed in
-abbrev pub entry_matter : Rules → State → Entry → (entries : ℕ) → List Row → Matter
-entry_matter u s e entries rows = record {
+-- where no cause has a matter
+abbrev pub no_matter : Matter
+no_matter = record {
+  closed = false;
+  wrong_places = false;
+  few_fills = false;
+  at_once_while_halted = false;
+  not_resting = false;
+  verdict = Ok tt;
+  no_place = false;
+  no_stamp = false;
+  wrong_quote = false;
+  wrong_phase = false;
+}
+
+-- what every call has that hands in places and so many fill entries
+abbrev pub handed_matter : State → (entries : ℕ) → List Row → Matter
+handed_matter s entries rows = record no_matter {
   closed = is_closed s.phase;
   wrong_places = other_places s rows;
   few_fills = nat_lt entries (length rows);
+}
+
+-- an entry
+abbrev pub entry_matter : Rules → State → Entry → (entries : ℕ) → List Row → Matter
+entry_matter u s e entries rows = record (handed_matter s entries rows) {
   at_once_while_halted = is_halted s.phase && at_once_as (kind_of e.kind);
-  not_resting = false;
   verdict = u.verdict e s.lot;
   no_place = rests_as (kind_of e.kind) && not (is_some (free_place rows));
   no_stamp = nat_lt last_stamp s.next;
-  wrong_quote = false;
-  wrong_phase = false;
 }
 
 -- a quote of two numbers
 abbrev pub quote_matter : State → (bid offer : ℕ) → (entries : ℕ) → List Row → Matter
-quote_matter s bid offer entries rows = record {
-  closed = is_closed s.phase;
-  wrong_places = other_places s rows;
-  few_fills = nat_lt entries (length rows);
-  at_once_while_halted = false;
-  not_resting = false;
-  verdict = Ok tt;
-  no_place = false;
-  no_stamp = false;
-  wrong_quote = not (is_some (quote_of bid offer));
-  wrong_phase = false;
-}
+quote_matter s bid offer entries rows = record (handed_matter s entries rows) { wrong_quote = not (is_some (quote_of bid offer)) }
 
 -- a withdrawal of the quote
 abbrev pub withdraw_matter : State → (entries : ℕ) → List Row → Matter
-withdraw_matter s entries rows = record {
-  closed = is_closed s.phase;
-  wrong_places = other_places s rows;
-  few_fills = nat_lt entries (length rows);
-  at_once_while_halted = false;
-  not_resting = false;
-  verdict = Ok tt;
-  no_place = false;
-  no_stamp = false;
-  wrong_quote = false;
-  wrong_phase = false;
-}
+withdraw_matter s entries rows = handed_matter s entries rows
 
 -- an amendment of a number to new shares left and a limit
 abbrev pub amend_matter : Rules → State → (number shares limit : ℕ) → (entries : ℕ) → List Row → Matter
-amend_matter u s number shares limit entries rows = record {
-  closed = is_closed s.phase;
-  wrong_places = other_places s rows;
-  few_fills = nat_lt entries (length rows);
-  at_once_while_halted = false;
+amend_matter u s number shares limit entries rows = record (handed_matter s entries rows) {
   not_resting = not (is_some (place_of number rows));
   verdict = u.verdict (amended_entry (row_at (place_of number rows) rows) shares limit) s.lot;
-  no_place = false;
   no_stamp = loses_time (row_at (place_of number rows) rows) shares limit && nat_lt last_stamp s.next;
-  wrong_quote = false;
-  wrong_phase = false;
 }
 
 -- a cancel of a number
 abbrev pub cancel_matter : State → (number : ℕ) → (entries : ℕ) → List Row → Matter
-cancel_matter s number entries rows = record {
-  closed = is_closed s.phase;
-  wrong_places = other_places s rows;
-  few_fills = nat_lt entries (length rows);
-  at_once_while_halted = false;
-  not_resting = not (is_some (place_of number rows));
-  verdict = Ok tt;
-  no_place = false;
-  no_stamp = false;
-  wrong_quote = false;
-  wrong_phase = false;
-}
+cancel_matter s number entries rows = record (handed_matter s entries rows) { not_resting = not (is_some (place_of number rows)) }
 
 -- halt, resumption or close
 abbrev pub event_matter : State → Event → (entries : ℕ) → List Row → Matter
-event_matter s event entries rows = record {
-  closed = is_closed s.phase;
-  wrong_places = other_places s rows;
-  few_fills = nat_lt entries (length rows);
-  at_once_while_halted = false;
-  not_resting = false;
-  verdict = Ok tt;
-  no_place = false;
-  no_stamp = false;
-  wrong_quote = false;
-  wrong_phase = not (fits s.phase event);
-}
+event_matter s event entries rows = record (handed_matter s entries rows) { wrong_phase = not (fits s.phase event) }
 
 -- the question after a number
 abbrev pub ask_matter : State → (number : ℕ) → List Row → Matter
-ask_matter s number rows = record {
-  closed = false;
-  wrong_places = other_places s rows;
-  few_fills = false;
-  at_once_while_halted = false;
-  not_resting = not (is_some (place_of number rows));
-  verdict = Ok tt;
-  no_place = false;
-  no_stamp = false;
-  wrong_quote = false;
-  wrong_phase = false;
-}
+ask_matter s number rows = record no_matter { wrong_places = other_places s rows; not_resting = not (is_some (place_of number rows)) }
 
 -- a book can be opened with this last sale and so many places
 abbrev pub openable : (last places : ℕ) → Bool

@@ -6,7 +6,9 @@ use Rattle.orders.specs.declared.lot.Lot.{Lot}
 use Rattle.orders.specs.declared.order.Order.{Order}
 use Rattle.orders.specs.declared.quote.Quote.{Quote}
 use Rattle.terms.specs.declared.rejection.Rejection.{Rejection}
+use Rattle.terms.specs.declared.terms.Terms.{Ghosts as Terms}
 use Rattle.priority.specs.declared.candidate.Candidate.{Candidate}
+use Rattle.priority.specs.declared.priority.Priority.{Ghosts as Priority}
 use Rattle.matching.specs.Market.{Market}
 use Rattle.book.specs.declared.book.Book.{Book}
 use Rattle.places.specs.declared.phase.Phase.{Phase}
@@ -30,8 +32,20 @@ pub record Rules : Type 0 where
 abbrev pub state_of : {P T : Type 0} → Book P T → State
 state_of b = record { lot = b.matcher.lot; quote = b.matcher.quote; phase = b.phase; places = b.places; next = b.next }
 
+-- what a book plays by; no call changes either
+abbrev pub priority_of : {P T : Type 0} → Book P T → P
+priority_of b = b.matcher.priority
+
+abbrev pub terms_of : {P T : Type 0} → Book P T → T
+terms_of b = b.matcher.terms
+
+-- the rules of a book, by what deals, verdicts and the priority mean
 abbrev pub rules_of : {P T : Type 0} → (T → Order → Order → Option Quote → Lot → Option ℕ) → (T → Entry → Lot → Result (Unit {0}) Rejection) → (P → Order → Candidate → Candidate → Bool) → Book P T → Rules
-rules_of deals verdict before b = record { deals = deals b.matcher.terms; verdict = verdict b.matcher.terms; before = before b.matcher.priority }
+rules_of deals verdict before b = record { deals = deals (terms_of b); verdict = verdict (terms_of b); before = before (priority_of b) }
+
+-- the same, by the bounds of a generic book, as `rules_in P.Priority T.Terms`
+abbrev pub rules_in : {P T : Type 0} → Priority P → Terms T → Book P T → Rules
+rules_in p t b = rules_of t.deals t.verdict p.before b
 
 -- the rules under the quote and the lot of a book
 abbrev pub market : Rules → State → Market
@@ -42,15 +56,15 @@ abbrev pub opened : (last places : ℕ) → State
 opened last places = record { lot = lot_of last; quote = None; phase = Open; places = places; next = 1 }
 
 abbrev pub with_quote : State → Option Quote → State
-with_quote s q = record { lot = s.lot; quote = q; phase = s.phase; places = s.places; next = s.next }
+with_quote s q = record s { quote = q }
 
 -- a stamp is taken
 abbrev pub stamped : State → State
-stamped s = record { lot = s.lot; quote = s.quote; phase = s.phase; places = s.places; next = s.next + 1 }
+stamped s = record s { next = s.next + 1 }
 
 abbrev pub with_phase : State → Phase → State
-with_phase s phase = record { lot = s.lot; quote = s.quote; phase = phase; places = s.places; next = s.next }
+with_phase s phase = record s { phase = phase }
 
 -- a stamp is taken, if one is needed
 abbrev pub stamped_if : Bool → State → State
-stamped_if needed s = record { lot = s.lot; quote = s.quote; phase = s.phase; places = s.places; next = cond {A = ℕ} needed (s.next + 1) s.next }
+stamped_if needed s = record s { next = cond {A = ℕ} needed (s.next + 1) s.next }

@@ -1,5 +1,5 @@
 // What every call but opening and the question meets first.
-ghost use Rattle.std.specs.Prelude.{◌≡◌, length, nat_lt};
+ghost use Rattle.std.specs.Prelude.{◌≡◌, ◌≤◌, length, nat_lt, OnOk};
 ghost use Rattle.places.specs.Phases.{is_closed};
 ghost use Rattle.book.specs.States.{state_of};
 ghost use Rattle.book.specs.Causes.{handed_in, other_places};
@@ -11,7 +11,8 @@ use orders::row::Row;
 impl<P, T> Book<P, T> {
     // A closed book, or lists that do not fit.
     pub(crate) fn admits_lists(&self, places: &[Row], entries: usize) -> Result<(), Refusal>
-        ensures { result ≡ handed_in (is_closed self.now.phase) (other_places (state_of self.now) places.now) (nat_lt entries (length places.now)) }
+        ensures cause { result ≡ handed_in (is_closed self.now.phase) (other_places (state_of self.now) places.now) (nat_lt entries (length places.now)) }
+        ensures fit { OnOk result (length places.now ≤ entries) }
     {
         if self.phase.is_closed() {
             return Err(Refusal::Closed);

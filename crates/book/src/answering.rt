@@ -1,8 +1,7 @@
 // Any call on an open book, by one function.
-ghost use Rattle.std.specs.Prelude.{◌≡◌, ◌≤◌, length, IfOk};
-ghost use Rattle.matching.specs.Runs.{written};
-ghost use Rattle.book.specs.States.{state_of, rules_of};
-ghost use Rattle.book.specs.Calls.{answer};
+ghost use Rattle.std.specs.Prelude.{◌≡◌};
+ghost use Rattle.book.specs.States.{state_of};
+ghost use Rattle.book.specs.Calls.{answer, Leaves};
 
 use crate::book::Book;
 use orders::call::{Call, Fill, Reply};
@@ -23,20 +22,11 @@ impl<P, T> Book<P, T> {
 impl<P: Priority, T: Terms> Book<P, T> {
     // Makes a call.
     pub fn answer(&mut self, call: &Call, places: &mut [Row], fills: &mut [Fill]) -> Reply
-        ensures reply { result ≡ (answer (rules_of T.Terms.deals T.Terms.verdict P.Priority.before self.old) (state_of self.old) call.now (length fills.old) places.old).reply }
-        ensures state { state_of self.new ≡ (answer (rules_of T.Terms.deals T.Terms.verdict P.Priority.before self.old) (state_of self.old) call.now (length fills.old) places.old).state }
-        ensures rules { (self.new.matcher.priority ≡ self.old.matcher.priority) × (self.new.matcher.terms ≡ self.old.matcher.terms) }
-        ensures places { places.new ≡ (answer (rules_of T.Terms.deals T.Terms.verdict P.Priority.before self.old) (state_of self.old) call.now (length fills.old) places.old).rows }
-        ensures fills { fills.new ≡ written 0 (answer (rules_of T.Terms.deals T.Terms.verdict P.Priority.before self.old) (state_of self.old) call.now (length fills.old) places.old).fills fills.old }
-        ensures few { IfOk result (λ x. x.fills ≤ length places.old) }
+        ensures { Leaves P.Priority T.Terms (λ u s. answer u s call.now) self.old self.new places.old places.new fills.old fills.new result }
     {
         match *call {
             Call::Enter(entry) => self.enter(&entry, places, fills),
-            Call::Amend {
-                number,
-                shares,
-                limit,
-            } => self.amend(number, shares, limit, places, fills),
+            Call::Amend(change) => self.amend(&change, places, fills),
             Call::Cancel { number } => self.cancel(number, places, fills),
             Call::Quote { bid, offer } => self.quote(bid, offer, places, fills),
             Call::Withdraw => self.withdraw(places, fills),

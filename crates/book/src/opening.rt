@@ -2,7 +2,7 @@
 ghost use Rattle.std.specs.Prelude.{◌≡◌, ℕ, length, replicate, is_ok, if◌then◌else◌, MatchResult};
 ghost use Rattle.orders.specs.Rows.{cleared};
 ghost use Rattle.orders.specs.declared.refusal.Refusal.TheVariants.{WrongOpening};
-ghost use Rattle.book.specs.States.{state_of, opened};
+ghost use Rattle.book.specs.States.{state_of, priority_of, terms_of, opened};
 ghost use Rattle.book.specs.Causes.{openable};
 
 use crate::book::Book;
@@ -17,28 +17,20 @@ use terms::terms::Terms;
 fn is_openable(last: u32, places: usize) -> bool
     ensures { result ≡ openable last places }
 {
-    1 <= last && last <= 4_000_000 && 1 <= places && places <= 1_024
-}
-
-fn clear(places: &mut [Row])
-    ensures { places.new ≡ replicate (length places.old) cleared }
-{
-    for place in places.iter_mut() {
-        *place = Row::cleared();
-    }
+    (1..=4_000_000).contains(&last) && (1..=1_024).contains(&places)
 }
 
 impl<P: Priority + Drop, T: Terms + Drop> Book<P, T> {
     // Opens a book on the lent places.
     pub fn open(priority: P, terms: T, last: u32, places: &mut [Row]) -> Result<Book<P, T>, Refusal>
         ensures test { is_ok result ≡ openable last (length places.old) }
-        ensures book { MatchResult result (λ b. (state_of b ≡ opened last (length places.old)) × (b.matcher.priority ≡ priority) × (b.matcher.terms ≡ terms)) (λ x. x ≡ WrongOpening) }
+        ensures book { MatchResult result (λ b. (state_of b ≡ opened last (length places.old)) × (priority_of b ≡ priority) × (terms_of b ≡ terms)) (λ x. x ≡ WrongOpening) }
         ensures places { places.new ≡ (if openable last (length places.old) then replicate (length places.old) cleared else places.old) }
     {
         if !is_openable(last, places.len()) {
             return Err(Refusal::WrongOpening);
         }
-        clear(places);
+        places.fill(Row::cleared());
         let matcher = Matcher {
             priority,
             terms,

@@ -1,60 +1,63 @@
 -- The verbs, the venues and the sides are taken just by their words.
-use Rattle.std.proofs.Common.{◌≡◌, ℕ, List, Ok, refl, arith}
+use Rattle.std.proofs.Common.{is_none, ◌≡◌, ℕ, Bool, true, ◌&&◌, not, eqb, ltb, List, length, Some, None, Option, refl}
+use Rattle.std.specs.List.{list_all}
+use Rattle.std.proofs.lemmas.Bool.{and_parts, ltb-true}
+use Rattle.orders.specs.Sides.{side_word}
 use Rattle.orders.specs.declared.side.Side.{Side}
 use Rattle.orders.specs.declared.side.Side.TheVariants.{Buy, Sell}
 use Rattle.venue.specs.declared.venue.Venue.{Venue}
 use Rattle.venue.specs.declared.venue.Venue.TheVariants.{LitBook, DarkBook}
-use Rattle.reader.specs.declared.fault.TextFault.TheVariants.{Word}
+use Rattle.reader.specs.Numbers.{number_of}
+use Rattle.reader.specs.Words.{space}
 use Rattle.reader.proofs.Spacing.{solid_true}
 use Rattle.verbs.specs.declared.verb.Verb.{Verb}
 use Rattle.verbs.specs.declared.verb.Verb.TheVariants.{Open, Enter, Amend, Cancel, Quote, NoQuote, Halt, Resume, Close, Ask}
-use Rattle.verbs.specs.Vocabulary.{verb_of, venue_of, side_of, verb_word, venue_word, side_word}
-use Rattle.commands.proofs.Next.{no_ok, pick, Names, Table}
+use Rattle.verbs.specs.Vocabulary as vocabulary
+use Rattle.verbs.specs.Vocabulary.{verb_of, venue_of, side_of, verb_word, venue_word}
+use Rattle.verbs.proofs.Spelling.{spelled_is}
+use Rattle.commands.proofs.Next.{Names, Table}
 
-verb_from : (w : List ℕ) (at : ℕ) (v : Verb) → verb_of w at ≡ Ok v → w ≡ verb_word v
-verb_from w at v e =
-    pick verb_word w Open v _ e (λ e.
-    pick verb_word w Enter v _ e (λ e.
-    pick verb_word w Amend v _ e (λ e.
-    pick verb_word w Cancel v _ e (λ e.
-    pick verb_word w Quote v _ e (λ e.
-    pick verb_word w NoQuote v _ e (λ e.
-    pick verb_word w Halt v _ e (λ e.
-    pick verb_word w Resume v _ e (λ e.
-    pick verb_word w Close v _ e (λ e.
-    pick verb_word w Ask v _ e (λ e. absurd (no_ok (Word at) v e)))))))))))
+-- the bytes of a word, and of no number
+abbrev worded : List ℕ → Bool
+worded w = is_none (number_of w) && (ltb 0 (length w) && list_all (λ b. not (eqb b space)) w)
+
+is_none_true : (o : Option ℕ) → is_none o ≡ true → o ≡ None
+is_none_true None e = refl
+is_none_true (Some n) e = cc
+
+-- both facts compute for a word that is written out
+known : {A : Type 0} {of : List ℕ → Option A} {word : A → List ℕ} (x : A) → of (word x) ≡ Some x → worded (word x) ≡ true → Names of word x
+known {word = word} x to e =
+    let w = word x in
+    let p = and_parts (is_none (number_of w)) (ltb 0 (length w) && list_all (λ b. not (eqb b space)) w) e in
+    let q = and_parts (ltb 0 (length w)) (list_all (λ b. not (eqb b space)) w) p.1 in
+    record { to = to; other = is_none_true (number_of w) p.0; some = ltb-true 0 (length w) q.0; solid = solid_true w q.1 }
 
 verb_names : (v : Verb) → Names verb_of verb_word v
-verb_names Open = record { to = λ at. refl; other = refl; some = omega arith; solid = solid_true (verb_word Open) refl }
-verb_names Enter = record { to = λ at. refl; other = refl; some = omega arith; solid = solid_true (verb_word Enter) refl }
-verb_names Amend = record { to = λ at. refl; other = refl; some = omega arith; solid = solid_true (verb_word Amend) refl }
-verb_names Cancel = record { to = λ at. refl; other = refl; some = omega arith; solid = solid_true (verb_word Cancel) refl }
-verb_names Quote = record { to = λ at. refl; other = refl; some = omega arith; solid = solid_true (verb_word Quote) refl }
-verb_names NoQuote = record { to = λ at. refl; other = refl; some = omega arith; solid = solid_true (verb_word NoQuote) refl }
-verb_names Halt = record { to = λ at. refl; other = refl; some = omega arith; solid = solid_true (verb_word Halt) refl }
-verb_names Resume = record { to = λ at. refl; other = refl; some = omega arith; solid = solid_true (verb_word Resume) refl }
-verb_names Close = record { to = λ at. refl; other = refl; some = omega arith; solid = solid_true (verb_word Close) refl }
-verb_names Ask = record { to = λ at. refl; other = refl; some = omega arith; solid = solid_true (verb_word Ask) refl }
+verb_names Open = known Open refl refl
+verb_names Enter = known Enter refl refl
+verb_names Amend = known Amend refl refl
+verb_names Cancel = known Cancel refl refl
+verb_names Quote = known Quote refl refl
+verb_names NoQuote = known NoQuote refl refl
+verb_names Halt = known Halt refl refl
+verb_names Resume = known Resume refl refl
+verb_names Close = known Close refl refl
+verb_names Ask = known Ask refl refl
 
 pub verbs : Table verb_of verb_word
-verbs = record { from = verb_from; names = verb_names }
-
-venue_from : (w : List ℕ) (at : ℕ) (v : Venue) → venue_of w at ≡ Ok v → w ≡ venue_word v
-venue_from w at v e = pick venue_word w LitBook v _ e (λ e. pick venue_word w DarkBook v _ e (λ e. absurd (no_ok (Word at) v e)))
+verbs = record { from = spelled_is verb_word vocabulary.verbs; names = verb_names }
 
 venue_names : (v : Venue) → Names venue_of venue_word v
-venue_names LitBook = record { to = λ at. refl; other = refl; some = omega arith; solid = solid_true (venue_word LitBook) refl }
-venue_names DarkBook = record { to = λ at. refl; other = refl; some = omega arith; solid = solid_true (venue_word DarkBook) refl }
+venue_names LitBook = known LitBook refl refl
+venue_names DarkBook = known DarkBook refl refl
 
 pub venues : Table venue_of venue_word
-venues = record { from = venue_from; names = venue_names }
-
-side_from : (w : List ℕ) (at : ℕ) (s : Side) → side_of w at ≡ Ok s → w ≡ side_word s
-side_from w at s e = pick side_word w Buy s _ e (λ e. pick side_word w Sell s _ e (λ e. absurd (no_ok (Word at) s e)))
+venues = record { from = spelled_is venue_word vocabulary.venues; names = venue_names }
 
 side_names : (s : Side) → Names side_of side_word s
-side_names Buy = record { to = λ at. refl; other = refl; some = omega arith; solid = solid_true (side_word Buy) refl }
-side_names Sell = record { to = λ at. refl; other = refl; some = omega arith; solid = solid_true (side_word Sell) refl }
+side_names Buy = known Buy refl refl
+side_names Sell = known Sell refl refl
 
 pub sides : Table side_of side_word
-sides = record { from = side_from; names = side_names }
+sides = record { from = spelled_is side_word vocabulary.sides; names = side_names }

@@ -1,15 +1,13 @@
 -- A line is taken as a command just when it is a written form of it.
-use Rattle.std.proofs.Common.{◌≡◌, ℕ, ◌≤◌, ltb, List, ◌∷◌, length, Ok, Err, sym, ap, ◌∙◌, subst, ⊎_elim}
-use Rattle.std.proofs.lemmas.Bool.{cond-true, cond-false, ltb-false, le-ltb, cases_Bool}
+use Rattle.std.proofs.Common.{◌≡◌, ℕ, ◌≤◌, List, ◌∷◌, length, Ok, sym, ap, ◌∙◌, subst}
 use Rattle.reader.specs.Faults.{longest_line}
-use Rattle.reader.specs.declared.fault.TextFault.TheVariants.{LongLine}
 use Rattle.reader.specs.Words.{onward, whole, texts, spaced, words_of}
 use Rattle.reader.proofs.Spacing.{line_is, words_of_lem}
+use Rattle.verbs.specs.Vocabulary.{verb_word}
 use Rattle.commands.specs.declared.command.Command.{Command}
-use Rattle.verbs.specs.Vocabulary.{verb_of, verb_word}
-use Rattle.commands.specs.Commands.{Parsed, command_by, first_command, command_of}
+use Rattle.commands.specs.Commands.{Parsed, command_by, first_command}
 use Rattle.commands.specs.Written.{verb_in, Tail, Written}
-use Rattle.commands.proofs.Next.{no_ok, word_then_ok, word_then_is}
+use Rattle.commands.proofs.Next.{word_then_ok, word_then_is}
 use Rattle.commands.proofs.Tables.{verbs}
 use Rattle.commands.proofs.Tails.{command_from, command_to, tail_solid}
 
@@ -17,9 +15,9 @@ from_line : (line : List ℕ) (c : Command) → length line ≤ longest_line →
 from_line line c h e =
     let r = whole line in
     let r1 = onward r in
-    word_then_ok verb_of verb_word verbs r (λ v. command_by v r1) c e (λ v tv e.
-    let q = command_from v r1 c e in
-    record { short = h; tail = texts r1.todo; follows = q.1; is = sym (line_is line) ∙ ap spaced (tv ∙ ap (λ v. verb_word v ∷ texts r1.todo) q.0) })
+    let w = word_then_ok verbs r (λ v. command_by v r1) c e in
+    let q = command_from w.0 r1 c w.2 in
+    record { short = h; tail = texts r1.todo; follows = q.1; is = sym (line_is line) ∙ ap spaced (w.1 ∙ ap (λ v. verb_word v ∷ texts r1.todo) q.0) }
 
 to_line : (line : List ℕ) (c : Command) → Written c line → first_command (whole line) ≡ Ok c
 to_line line c w =
@@ -28,18 +26,9 @@ to_line line c w =
     let v = verb_in c in
     let n = verbs.names v in
     let words : texts r.todo ≡ verb_word v ∷ w.tail = ap (λ l. texts (words_of l)) w.is ∙ words_of_lem (verb_word v) w.tail n.some n.solid (tail_solid c w.tail w.follows) in
-    let x = word_then_is verb_of verb_word verbs r (λ v. command_by v r1) v w.tail words in
+    let x = word_then_is verbs r (λ v. command_by v r1) v w.tail words in
     x.0 ∙ command_to c r1 (subst (Tail c) (sym x.1) w.follows)
 
--- of any result that is what the line gives
-pub taken : (r : Parsed) (line : List ℕ) → r ≡ command_of line → (c : Command) → (r ≡ Ok c → Written c line) × (Written c line → r ≡ Ok c)
-unfolding command_of
-taken r line is c =
-    let long = ltb longest_line (length line) in
-    let first = first_command (whole line) in (
-      λ e. ⊎_elim
-          (λ t. absurd (no_ok LongLine c (sym (cond-true long (Err LongLine) first t) ∙ sym is ∙ e)))
-          (λ f. from_line line c (ltb-false longest_line (length line) f) (sym (cond-false long (Err LongLine) first f) ∙ sym is ∙ e))
-          (cases_Bool long),
-      λ w. is ∙ cond-false long (Err LongLine) first (le-ltb longest_line (length line) w.short) ∙ to_line line c w,
-    )
+-- of any result that is what the words of a line give that is not too long
+pub taken : (line : List ℕ) (r : Parsed) → length line ≤ longest_line → r ≡ first_command (whole line) → (c : Command) → (r ≡ Ok c → Written c line) × (Written c line → r ≡ Ok c)
+taken line r short is c = (λ e. from_line line c short (sym is ∙ e), λ w. is ∙ to_line line c w)

@@ -49,7 +49,7 @@ enter_by r =
     Ok (command.Make (call.Enter (record { side = side_code side; kind = kind; shares = shares; limit = limit; minimum = minimum; broker = broker; mark = m.0; hidden = m.1 }))))))))))
 
 abbrev pub amend_by : Rest → Parsed
-amend_by r = number_then r (λ n r. number_then r (λ shares r. number_then r (λ limit r. end_then r (command.Make (call.Amend n shares limit)))))
+amend_by r = number_then r (λ n r. number_then r (λ shares r. number_then r (λ limit r. end_then r (command.Make (call.Amend (record { number = n; shares = shares; limit = limit }))))))
 
 abbrev pub cancel_by : Rest → Parsed
 cancel_by r = number_then r (λ n r. end_then r (command.Make (call.Cancel n)))

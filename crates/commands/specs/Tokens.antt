@@ -1,5 +1,5 @@
 -- What a token is taken for.
-use Rattle.std.specs.Prelude.{ℕ, List, Ok, Err, Result}
+use Rattle.std.specs.Prelude.{ℕ, List, Ok, Err, ok_or, Option, Result}
 use Rattle.reader.specs.Words.{Tok, word, number, end}
 use Rattle.reader.specs.declared.fault.TextFault.{TextFault}
 use Rattle.reader.specs.declared.fault.TextFault.TheVariants.{Word}
@@ -10,10 +10,10 @@ as_number (word w at) = Err (Word at)
 as_number (number w n at) = Ok n
 as_number (end w at) = Err (Word at)
 
-abbrev pub as_word : {A : Type 0} → (List ℕ → ℕ → Result A TextFault) → Tok → Result A TextFault
-as_word f (word w at) = f w at
-as_word f (number w n at) = Err (Word at)
-as_word f (end w at) = Err (Word at)
+abbrev pub as_word : {A : Type 0} → (of : List ℕ → Option A) → Tok → Result A TextFault
+as_word of (word w at) = ok_or (of w) (Word at)
+as_word of (number w n at) = Err (Word at)
+as_word of (end w at) = Err (Word at)
 
 abbrev pub as_end : Tok → Result (Unit {0}) TextFault
 as_end (word w at) = Err (Word at)

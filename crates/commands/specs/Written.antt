@@ -11,11 +11,12 @@ use Rattle.verbs.specs.declared.verb.Verb.{Verb}
 use Rattle.verbs.specs.declared.verb.Verb.TheVariants as verb
 use Rattle.commands.specs.declared.command.Command.{Command}
 use Rattle.commands.specs.declared.command.Command.TheVariants.{Open, Make, Ask}
-use Rattle.verbs.specs.Vocabulary.{verb_word, venue_word, side_word}
+use Rattle.verbs.specs.Vocabulary.{verb_word, venue_word}
+use Rattle.orders.specs.Sides.{side_word}
 
 abbrev pub verb_of_call : Call → Verb
 verb_of_call (Enter e) = verb.Enter
-verb_of_call (Amend n s l) = verb.Amend
+verb_of_call (Amend a) = verb.Amend
 verb_of_call (Cancel n) = verb.Cancel
 verb_of_call (Quote b o) = verb.Quote
 verb_of_call Withdraw = verb.NoQuote
@@ -49,7 +50,7 @@ pub record EntryWritten (e : Entry) (words : List (List ℕ)) : Type 0 where
 -- the words that follow the verb of a call
 abbrev pub CallTail : Call → List (List ℕ) → Type 0
 CallTail (Enter e) words = EntryWritten e words
-CallTail (Amend n s l) words = (words ≡ decimal n ∷ decimal s ∷ decimal l ∷ []) × Fit n × Fit s × Fit l
+CallTail (Amend a) words = (words ≡ decimal a.number ∷ decimal a.shares ∷ decimal a.limit ∷ []) × Fit a.number × Fit a.shares × Fit a.limit
 CallTail (Cancel n) words = (words ≡ decimal n ∷ []) × Fit n
 CallTail (Quote b o) words = (words ≡ decimal b ∷ decimal o ∷ []) × Fit b × Fit o
 CallTail Withdraw words = words ≡ []

@@ -2,5 +2,4 @@
 #![tactic(auto)]
 
 pub mod command;
-mod parsing;
 mod phrases;

@@ -1,76 +1,51 @@
 -- What a trade does to the sheet and the places together.
-use Rattle.std.proofs.Common.{◌≡◌, ℕ, zero, suc, ◌+◌, ◌-◌, ◌<◌, ◌≤◌, Bool, true, false, cond, ◌&&◌, eqb, ◌⊎◌, List, [], ◌∷◌, length, get_or, set, Some, None, Option, sym, refl, ap, ◌∙◌, subst, inl, inr, ⊎_elim, le_of_suc-le-suc, not-suc-le-zero, add-zero, add-suc, suc-add, arith}
+use Rattle.std.proofs.Common.{◌≡◌, ℕ, zero, suc, ◌+◌, ◌-◌, ◌<◌, ◌≤◌, Bool, true, false, cond, ◌⊎◌, List, [], ◌∷◌, length, get_or, set, Some, None, Option, sym, refl, ap, ◌∙◌, subst, inl, inr, ⊎_elim, le_of_suc-le-suc, not-suc-le-zero, add-zero, add-suc, suc-add, arith}
+use Rattle.std.proofs.lemmas.Grind.{common_steps}
 use Rattle.std.proofs.lemmas.List.{length-set, get_or-set_other}
-use Rattle.std.proofs.lemmas.Bool.{and_parts, cases_eq, cases_lt, eq-eqb, ne_eqb, lt-ltb, or_left, or_right, or_from}
+use Rattle.std.proofs.lemmas.Bool.{cases_eq, cases_lt, lt-ltb}
 use Rattle.std.proofs.lemmas.Bool.Decides.{nat_tests}
-use Rattle.orders.proofs.Bounds.{fits_from}
-use Rattle.orders.specs.Ranges.{shares_fit, broker_fits, stamp_fits, plain_fits, order_fits}
+use Rattle.orders.specs.Ranges.{order_fits}
 use Rattle.orders.specs.Rows.{order_of, row_of, cleared}
 use Rattle.orders.specs.declared.call.Fill.{Fill}
 use Rattle.orders.specs.declared.order.Order.{Order}
 use Rattle.orders.specs.declared.row.Row.{Row}
 use Rattle.orders.specs.declared.side.Side.{Side}
-use Rattle.orders.specs.declared.side.Side.TheVariants.{Buy, Sell}
 use Rattle.matching.specs.declared.meeting.Found.{Found}
 use Rattle.matching.specs.declared.meeting.Meeting.{Meeting}
 use Rattle.matching.specs.Market.{Market}
 use Rattle.matching.specs.Firsts.{candidate_at, earlier, first_from, first}
-use Rattle.matching.specs.Trades.{with_left, lessened, shares, fill_between, fill_of, left_active, left_passive}
+use Rattle.matching.specs.Trades.{with_left, lessened, shares, fill_of, left_active, left_passive}
 use Rattle.matching.specs.Runs.{passed}
-use Rattle.matching.proofs.Options.{none_some, some_same, cond_came}
+use Rattle.std.proofs.lemmas.Option.{none-some, same_Some}
 use Rattle.matching.proofs.Rows.{lessened_all}
 use Rattle.matching.proofs.Chosen.{Meets, first_is}
 use Rattle.matching.proofs.Foremost.{Lawful, candidate_of, first_before}
 use Rattle.day.specs.Sheets.{Orders, put, less_of, names, took}
-use Rattle.day.specs.Fairness.{active_by, passive_by, active_number, passive_number, dealt, Fair}
+use Rattle.day.specs.Fairness.{active_number, passive_number, dealt, Fair}
 use Rattle.day.specs.Law.{Holds}
 use Rattle.day.proofs.Keeping.{Stamped, Sound, Aside}
 use Rattle.day.proofs.Putting.{put_same, put_other, gone_was, row_order, cleared_none, RowFor, place_of, write_holds}
 
 -- the two numbers that a fill names
-named_by : (d : Side) (f : Fill) (n : ℕ) → (n ≡ active_by d f) ⊎ (n ≡ passive_by d f) → names f n ≡ true
-named_by Buy f n (inl e) = or_left (eqb n f.buyer) (eqb n f.seller) (eq-eqb n f.buyer e)
-named_by Buy f n (inr e) = or_right (eqb n f.buyer) (eqb n f.seller) (eq-eqb n f.seller e)
-named_by Sell f n (inl e) = or_right (eqb n f.buyer) (eqb n f.seller) (eq-eqb n f.seller e)
-named_by Sell f n (inr e) = or_left (eqb n f.buyer) (eqb n f.seller) (eq-eqb n f.buyer e)
-
-unnamed_by : (d : Side) (f : Fill) (n : ℕ) → (n ≡ active_by d f → ⊥) → (n ≡ passive_by d f → ⊥) → names f n ≡ false
-unnamed_by Buy f n a p = or_from (eqb n f.buyer) (eqb n f.seller) (ne_eqb n f.buyer a) (ne_eqb n f.seller p)
-unnamed_by Sell f n a p = or_from (eqb n f.buyer) (eqb n f.seller) (ne_eqb n f.buyer p) (ne_eqb n f.seller a)
-
 pub names_both : (f : Fill) (n : ℕ) → (n ≡ active_number f) ⊎ (n ≡ passive_number f) → names f n ≡ true
-names_both f n e = named_by f.active f n e
+names_both f n e = grind arith
 
 pub names_no_other : (f : Fill) (n : ℕ) → (n ≡ active_number f → ⊥) → (n ≡ passive_number f → ⊥) → names f n ≡ false
-names_no_other f n a p = unnamed_by f.active f n a p
+names_no_other f n a p = grind arith
 
 pub cases_named : (f : Fill) (n : ℕ) → ((n ≡ active_number f) ⊎ (n ≡ passive_number f)) ⊎ (names f n ≡ false)
-cases_named f n =
-    ⊎_elim
-    (λ a. inl (inl a))
-    (λ a. ⊎_elim (λ p. inl (inr p)) (λ p. inr (names_no_other f n a p)) (cases_eq n (passive_number f)))
-    (cases_eq n (active_number f))
+cases_named f n = grind arith
 
 pub took_named : (f : Fill) (s : Orders) (n : ℕ) → (n ≡ active_number f) ⊎ (n ≡ passive_number f) → took f s n ≡ less_of f.shares (s n)
-took_named f s n e = ap (λ (b : Bool). cond b (less_of f.shares (s n)) (s n)) (names_both f n e)
+took_named f s n e = grind arith
 
 pub took_unnamed : (f : Fill) (s : Orders) (n : ℕ) → names f n ≡ false → took f s n ≡ s n
-took_unnamed f s n e = ap (λ (b : Bool). cond b (less_of f.shares (s n)) (s n)) e
+took_unnamed f s n e = grind arith
 
 -- an order with some shares fewer, where some are left
-shares_less : (left q : ℕ) → q < left → shares_fit left ≡ true → shares_fit (left - q) ≡ true
-shares_less left q h e = grind (arith, nat_tests)
-
-plain_less : (left q size broker stamp number : ℕ) → q < left → plain_fits left size broker stamp number ≡ true → plain_fits (left - q) size broker stamp number ≡ true
-plain_less left q size broker stamp number h e =
-    let l = (and_parts _ _ (and_parts _ _ (and_parts _ _ (and_parts _ _ e).0).0).0).0 in
-    ap (λ (b : Bool). b && shares_fit size && broker_fits broker && stamp_fits stamp && stamp_fits number) (shares_less left q h l ∙ sym l) ∙ e
-
 less_fits : (o : Order) (q : ℕ) → q < o.left → order_fits o.kind (o.left - q) o.size o.limit o.minimum o.broker o.hidden o.stamp o.number ≡ true
 unfolding order_fits
-less_fits o q h =
-    let w = and_parts _ _ o.ok in
-    fits_from o.kind (o.left - q) o.size o.limit o.minimum o.broker o.hidden o.stamp o.number (plain_less o.left q o.size o.broker o.stamp o.number h w.0) w.1
+less_fits o q h = grind arith
 
 pub record Less (o : Order) (q : ℕ) (p : Order) : Type 0 where
   pub row : lessened (row_of o) q ≡ row_of p
@@ -83,20 +58,7 @@ pub less_is : (o : Order) (q : ℕ) → ((lessened (row_of o) q ≡ cleared) × 
 less_is o q =
     ⊎_elim
     (λ h. inr (
-      record {
-        side = o.side;
-        kind = o.kind;
-        left = o.left - q;
-        size = o.size;
-        limit = o.limit;
-        minimum = o.minimum;
-        broker = o.broker;
-        mark = o.mark;
-        hidden = o.hidden;
-        stamp = o.stamp;
-        number = o.number;
-        ok = less_fits o q h;
-      },
+      record { side = o.side; kind = o.kind; left = o.left - q; size = o.size; limit = o.limit; minimum = o.minimum; broker = o.broker; mark = o.mark; hidden = o.hidden; stamp = o.stamp; number = o.number; ok = less_fits o q h },
       record { row = ap (λ (b : Bool). cond b (with_left (row_of o) (o.left - q)) cleared) (lt-ltb q o.left h); number = refl; stamp = refl; left = omega arith },
     ))
     (λ h. inl (lessened_all (row_of o) q h, h))
@@ -106,11 +68,11 @@ pub less_for : (o : Order) (q : ℕ) → RowFor o.number (lessened (row_of o) q)
 less_for o q = ⊎_elim (λ w. inl w.0) (λ w. inr (w.0, w.1.row, w.1.number)) (less_is o q)
 
 less_came : (q : ℕ) (x : Option Order) (o : Order) → less_of q x ≡ Some o → (p : Order) × (x ≡ Some p) × Less p q o
-less_came q None o e = absurd (none_some o e)
+less_came q None o e = absurd (none-some o e)
 less_came q (Some p) o e =
     ⊎_elim
-    (λ w. absurd (none_some o (sym (cleared_none (lessened (row_of p) q) w.0) ∙ e)))
-    (λ w. (p, refl, subst (λ (y : Order). Less p q y) (some_same w.0 o (sym (row_order (lessened (row_of p) q) w.0 w.1.row) ∙ e)) w.1))
+    (λ w. absurd (none-some o (sym (cleared_none (lessened (row_of p) q) w.0) ∙ e)))
+    (λ w. (p, refl, subst (λ (y : Order). Less p q y) (same_Some w.0 o (sym (row_order (lessened (row_of p) q) w.0 w.1.row) ∙ e)) w.1))
     (less_is p q)
 
 -- an order that stands after a fill stood before it
@@ -135,12 +97,8 @@ pub record Tells (f : Fill) (d : Side) (a p c n : ℕ) : Type 0 where
   pub shares : f.shares ≡ n
   pub side : f.active ≡ d
 
-between_tells : (d : Side) (a p price n : ℕ) → Tells (fill_between d a p price n) d a p price n
-between_tells Buy a p price n = record { active = refl; passive = refl; price = refl; shares = refl; side = refl }
-between_tells Sell a p price n = record { active = refl; passive = refl; price = refl; shares = refl; side = refl }
-
 pub fill_tells : (t : Meeting) → Tells (fill_of t) t.active.side t.active.number t.found.candidate.order.number t.found.candidate.price (shares t)
-fill_tells t = between_tells t.active.side t.active.number t.found.candidate.order.number t.found.candidate.price (shares t)
+fill_tells t = grind arith
 
 -- an active order finds every older order in the places, and there only orders that stand
 pub record Sees (s : Orders) (rows : List Row) (a : Order) : Type 0 where
@@ -155,33 +113,28 @@ sees_all places s rows h i a l e = record {
   stands = h.only;
 }
 
+-- what holds of the first place, and of each place behind it, holds of all
+pub each_more : (P : ℕ → Row → Type 0) (i : ℕ) (r : Row) (rs : List Row) → P i r → ((k : ℕ) → k < length rs → P (suc i + k) (get_or rs k cleared)) → (k : ℕ) → k < suc (length rs) → P (i + k) (get_or (r ∷ rs) k cleared)
+each_more P i r rs u v zero h = subst (λ (n : ℕ). P n r) (sym (add-zero i)) u
+each_more P i r rs u v (suc k) h = subst (λ (n : ℕ). P n (get_or rs k cleared)) (suc-add i k ∙ sym (add-suc i k)) (v k (le_of_suc-le-suc h))
+
 -- where no order is chosen, no older one has a deal
 module _ (m : Market) (a : Order) where
   earlier_none : (b c : Option Found) → earlier m a b c ≡ None → (b ≡ None) × (c ≡ None)
-  earlier_none None c e = (refl, e)
-  earlier_none (Some b) None e = absurd (none_some b (sym e))
-  earlier_none (Some b) (Some c) e =
-      absurd (⊎_elim (λ h. none_some c (sym h.1)) (λ h. none_some b (sym h.1)) (cond_came (m.before a c.candidate b.candidate) (Some c) (Some b) None e))
+  earlier_none b c e = grind (arith, common_steps)
 
   from_none : (rows : List Row) (i : ℕ) (b : Option Found) → first_from m a i b rows ≡ None → (b ≡ None) × ((k : ℕ) → k < length rows → candidate_at m a (i + k) (get_or rows k cleared) ≡ None)
   from_none [] i b e = (e, λ k h. absurd (not-suc-le-zero h))
   from_none (r ∷ rs) i b e =
       let ih = from_none rs (suc i) (earlier m a b (candidate_at m a i r)) e in
       let t = earlier_none b (candidate_at m a i r) ih.0 in
-      (t.0, there t.1 ih.1)
-    where
-      there : candidate_at m a i r ≡ None → ((k : ℕ) → k < length rs → candidate_at m a (suc i + k) (get_or rs k cleared) ≡ None) → (k : ℕ) → k < suc (length rs) → candidate_at m a (i + k) (get_or (r ∷ rs) k cleared) ≡ None
-      there u v zero h = subst (λ (n : ℕ). candidate_at m a n r ≡ None) (sym (add-zero i)) u
-      there u v (suc k) h = subst (λ (n : ℕ). candidate_at m a n (get_or rs k cleared) ≡ None) (suc-add i k ∙ sym (add-suc i k)) (v k (le_of_suc-le-suc h))
+      (t.0, each_more (λ n x. candidate_at m a n x ≡ None) i r rs t.1 ih.1)
 
   no_deal : (i : ℕ) (r : Row) (o : Order) → order_of r ≡ Some o → o.stamp < a.stamp → candidate_at m a i r ≡ None → (d : Option ℕ) → m.deal a o ≡ d → m.deal a o ≡ None
-  no_deal i r o e h c None q = q
-  no_deal i r o e h c (Some p) q = absurd (none_some (record { place = i; candidate = record { order = o; price = p } }) (sym c ∙ candidate_of m a i r o p e h q))
+  no_deal i r o e h c d q = grind (arith, common_steps)
 
   pub none_deals : (s : Orders) (rows : List Row) → Sees s rows a → first m a rows ≡ None → (n : ℕ) (o : Order) → s n ≡ Some o → o.stamp < a.stamp → m.deal a o ≡ None
-  none_deals s rows sees e n o q h =
-      let w = sees.placed n o q h in
-      no_deal (0 + w.0) (get_or rows w.0 cleared) o w.2 h ((from_none rows 0 None e).1 w.0 w.1) (m.deal a o) refl
+  none_deals s rows sees e n o q h = grind (arith, nat_tests, sees.placed, no_deal, from_none)
 
 -- a meeting of the active order with the one that was chosen
 module _ (m : Market) (next : ℕ) (s : Orders) (rows : List Row) (t : Meeting) (stamped : Stamped next s) (sees : Sees s rows t.active) (e : first m t.active rows ≡ Some t.found) where
@@ -198,9 +151,7 @@ module _ (m : Market) (next : ℕ) (s : Orders) (rows : List Row) (t : Meeting) 
   passive_at = sees.stands t.found.place p met.0 met.1.order
 
   pub numbers_apart : p.number ≡ a.number → ⊥
-  numbers_apart x =
-      let same : p.stamp ≡ a.stamp = ap (λ (o : Order). o.stamp) (some_same p a (sym passive_at ∙ ap s x ∙ sees.active)) in
-      omega (arith, met.1.older)
+  numbers_apart x = grind (arith, passive_at, sees.active, met)
 
   -- the two orders lose the shares of the fill, and every other one stays
   pub took_active : took (fill_of t) s a.number ≡ order_of (left_active t)
@@ -257,7 +208,7 @@ module _ (m : Market) (next : ℕ) (s : Orders) (rows : List Row) (t : Meeting) 
     rows₁ = set rows i (left_active t)
 
     places_apart : t.found.place ≡ i → ⊥
-    places_apart x = numbers_apart (ap (λ (o : Order). o.number) (some_same p a (sym met.1.order ∙ ap (λ (j : ℕ). order_of (get_or rows j cleared)) x ∙ at)))
+    places_apart x = numbers_apart (ap (λ (o : Order). o.number) (same_Some p a (sym met.1.order ∙ ap (λ (j : ℕ). order_of (get_or rows j cleared)) x ∙ at)))
 
     active_holds : Holds places s₁ rows₁
     active_holds =
@@ -279,13 +230,7 @@ module _ (m : Market) (next : ℕ) (s : Orders) (rows : List Row) (t : Meeting) 
 
 -- the active order of a row aside
 pub aside_is : (places next k : ℕ) (r : Row) (s : Orders) (rows : List Row) → Aside places next k r s rows → (a : Order) → order_of r ≡ Some a → (a.number ≡ k) × (s k ≡ Some a)
-aside_is places next k r s rows h a e = by h.active
-  where
-    by : ((r ≡ cleared) × (s k ≡ None)) ⊎ ((a : Order) × (r ≡ row_of a) × (s k ≡ Some a) × (a.number ≡ k)) → (a.number ≡ k) × (s k ≡ Some a)
-    by (inl w) = absurd (none_some a (sym (cleared_none r w.0) ∙ e))
-    by (inr w) =
-        let same : w.0 ≡ a = some_same w.0 a (sym (row_order r w.0 w.1) ∙ e) in
-        (ap (λ (x : Order). x.number) (sym same) ∙ w.3, w.2 ∙ ap Some same)
+aside_is places next k r s rows h a e = grind (arith, h.active, row_order, cleared_none)
 
 pub aside_sees : (places next k : ℕ) (r : Row) (s : Orders) (rows : List Row) → Aside places next k r s rows → (a : Order) → order_of r ≡ Some a → Sees s rows a
 aside_sees places next k r s rows h a e =
@@ -293,7 +238,7 @@ aside_sees places next k r s rows h a e =
     record {
       active = ap s w.0 ∙ w.1;
       placed = λ n o q old.
-          let ne : n ≡ k → ⊥ = λ x. let same : a.stamp ≡ o.stamp = ap (λ (y : Order). y.stamp) (some_same a o (sym w.1 ∙ ap s (sym x) ∙ q)) in let z : ⊥ = omega arith in z in
+          let ne : n ≡ k → ⊥ = λ x. let same : a.stamp ≡ o.stamp = ap (λ (y : Order). y.stamp) (same_Some a o (sym w.1 ∙ ap s (sym x) ∙ q)) in let z : ⊥ = omega arith in z in
           let v = h.holds.all n o (put_other k None s n ne ∙ q) in
           (v.0, v.1, row_order (get_or rows v.0 cleared) o v.2);
       stands = λ j o l q. (gone_was k s o.number o (h.holds.only j o l q)).1;

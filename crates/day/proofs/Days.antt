@@ -1,10 +1,10 @@
 -- Every day keeps the law.
-use Rattle.std.proofs.Common.{◌≡◌, ℕ, ◌<◌, List, [], ◌∷◌, length, get_or, replicate, sym, ap, ◌∙◌, subst, arith}
-use Rattle.std.proofs.lemmas.List.{length-replicate, get_or-replicate}
-use Rattle.orders.specs.Rows.{order_of, cleared}
+use Rattle.std.proofs.Common.{ℕ, List, [], ◌∷◌, length, replicate, sym, subst, arith}
+use Rattle.std.proofs.lemmas.Grind.{common_steps}
+use Rattle.orders.specs.Rows.{cleared}
 use Rattle.orders.specs.declared.row.Row.{Row}
 use Rattle.matching.proofs.Foremost.{Lawful}
-use Rattle.matching.proofs.Options.{none_some}
+use Rattle.std.proofs.lemmas.Option.{none-some}
 use Rattle.book.specs.States.{State, Rules, opened}
 use Rattle.book.specs.Calls.{After}
 use Rattle.day.specs.declared.item.Item.{Item}
@@ -31,24 +31,15 @@ module _ (u : Rules) (lawful : Lawful u.before) (taken : Taken u) (places entrie
 
 -- places that are cleared hold the sheet of a book that was just opened
 opening_holds : (places last : ℕ) → Holds places (opening last).orders (replicate places cleared)
-opening_holds places last =
-    let long : length (replicate places cleared) ≡ places = length-replicate places cleared in
-    let at : (k : ℕ) → k < length (replicate places cleared) → get_or (replicate places cleared) k cleared ≡ cleared = λ k l. get_or-replicate places k cleared cleared (omega (arith, l, long)) in
-    record {
-      size = long;
-      all = λ n o q. absurd (none_some o q);
-      only = λ k o l q. absurd (none_some o (sym (ap order_of (at k l)) ∙ q));
-      once = λ i j x y li lj qi qj e. absurd (none_some x (sym (ap order_of (at i li)) ∙ qi));
-      free = λ k l q. at k l;
-    }
+opening_holds places last = grind (arith, common_steps)
 
 opening_between : (u : Rules) (places last : ℕ) → Between u places (opening last) nothing (replicate places cleared)
 opening_between u places last = record {
   sound = record {
     holds = opening_holds places last;
-    stamped = record { young = λ n o q. absurd (none_some o q); apart = λ i j x y qi qj e. absurd (none_some x qi) };
+    stamped = record { young = λ n o q. absurd (none-some o q); apart = λ i j x y qi qj e. absurd (none-some x qi) };
   };
-  settled = λ i j x y qx qy old. absurd (none_some x qx);
+  settled = λ i j x y qx qy old. absurd (none-some x qx);
   balanced = λ n. let h = held_is places (opening last).orders (replicate places cleared) (opening_holds places last) n in omega (arith, h);
   low = omega arith;
 }

@@ -1,7 +1,8 @@
 -- An accepted entry keeps the law.
-use Rattle.std.proofs.Common.{◌≡◌, ℕ, ◌+◌, ◌-◌, ◌≤◌, Bool, true, false, cond, not, ◌&&◌, eqb, ◌⊎◌, List, [], ◌++◌, length, get_or, set, is_some, Some, None, Ok, Option, sym, refl, ap, ◌∙◌, subst, inl, inr, ⊎_elim, arith}
+use Rattle.std.proofs.Common.{◌≡◌, ℕ, ◌+◌, ◌-◌, ◌≤◌, Bool, true, false, cond, not, ◌&&◌, eqb, ◌⊎◌, List, [], ◌++◌, length, get_or, set, is_some, Some, None, Ok, Option, sym, refl, ap, ◌∙◌, subst, inl, inr, arith}
+use Rattle.std.proofs.lemmas.Grind.{common_steps}
 use Rattle.std.proofs.lemmas.List.{get_or-set_same, length-append, length-set}
-use Rattle.std.proofs.lemmas.Bool.{cases_eq, eq-eqb, ne_eqb, ltb-false, not-false, false≢true}
+use Rattle.std.proofs.lemmas.Bool.{eq-eqb, ltb-false, not-false, false≢true}
 use Rattle.orders.specs.Codes.{kind_of}
 use Rattle.orders.specs.Ranges.{last_stamp}
 use Rattle.orders.specs.Rows.{order_of, row_of, entry_row, cleared}
@@ -17,7 +18,7 @@ use Rattle.matching.specs.Market.{Market}
 use Rattle.matching.specs.Runs.{Done, ended, run}
 use Rattle.matching.specs.Sweeps.{Swept}
 use Rattle.matching.proofs.Foremost.{Lawful}
-use Rattle.matching.proofs.Options.{none_some}
+use Rattle.std.proofs.lemmas.Option.{none-some}
 use Rattle.matching.proofs.Rows.{row_is}
 use Rattle.places.specs.Phases.{is_open}
 use Rattle.places.specs.Places.{free_place, placed, left_at}
@@ -37,7 +38,7 @@ use Rattle.day.specs.Law.{Holds, Settled}
 use Rattle.day.proofs.Keeping.{state_on, Sound, Aside}
 use Rattle.day.proofs.Runnings.{run_law}
 use Rattle.day.proofs.Looking.{some_is, free_holds, held_is}
-use Rattle.day.proofs.Putting.{put_same, put_other, row_order, cleared_none}
+use Rattle.day.proofs.Putting.{put_same, row_order, cleared_none}
 use Rattle.day.proofs.Staying.{Stays, stays_same, run_stays}
 use Rattle.day.proofs.Writing.{unused, enter_aside, FreeAt, rest_by, placed_at}
 use Rattle.day.proofs.Leaving.{leaves_fair}
@@ -53,6 +54,13 @@ pub record Kept (u : Rules) (places : ℕ) (s : Sheet) (t : Tally) (c : Call) (r
   pub balanced : Balanced (tallied c (Ok r) fs s t) rows
   pub state : st ≡ state_on places (accepted c fs s)
   pub low : 1 ≤ (written c s).next
+
+-- a finished call, once its receipt and the tally after it are known
+pub kept_of : (u : Rules) (places : ℕ) (s : Sheet) (t : Tally) (c : Call) (own : List Fill) (rows : List Row) (w : Swept) (r : Receipt) (st : State) → Finished u places s c own rows w
+    → Receipted s (accepted c (own ++ w.fills) s).orders c r (own ++ w.fills) → Balanced (tallied c (Ok r) (own ++ w.fills) s t) w.rows → st ≡ state_on places (accepted c (own ++ w.fills) s) → 1 ≤ (written c s).next
+    → Kept u places s t c r (own ++ w.fills) w.rows st
+kept_of u places s t c own rows w r st fin receipted balanced state low =
+    record { traded = fin.traded; receipted = receipted; fair = fin.fair; sound = fin.sound; settled = fin.settled; balanced = balanced; state = state; low = low }
 
 -- an entry that the terms take makes an order
 abbrev pub Taken : Rules → Type 0
@@ -76,29 +84,14 @@ module _ (m : Market) (lawful : Lawful m.before) (places next k : ℕ) (r : Row)
 -- a place that was free stays so
 still_free : (rows rows' : List Row) (i : ℕ) → Stays rows rows' → order_of (get_or rows i cleared) ≡ None → (b : Option Order) → order_of (get_or rows' i cleared) ≡ b → b ≡ None
 still_free rows rows' i stays f None q = refl
-still_free rows rows' i stays f (Some o) q = let w = stays i o q in absurd (none_some w.0 (sym f ∙ w.1))
+still_free rows rows' i stays f (Some o) q = let w = stays i o q in absurd (none-some w.0 (sym f ∙ w.1))
 
 active_left : (r : Row) (b : Option Order) (k : ℕ) → ((r ≡ cleared) × (b ≡ None)) ⊎ ((a : Order) × (r ≡ row_of a) × (b ≡ Some a) × (a.number ≡ k)) → left_of b ≡ r.left
-active_left r b k (inl w) = ap left_of w.1 ∙ sym (ap (λ (x : Row). x.left) w.0)
-active_left r b k (inr w) = ap left_of w.2 ∙ sym (ap (λ (x : Row). x.left) w.1)
-
-cond_zero : (b : Bool) → cond {A = ℕ} b 0 0 ≡ 0
-cond_zero true = refl
-cond_zero false = refl
+active_left r b k h = grind (arith, common_steps)
 
 -- what leaves of the sheet with an order of a kind that does not rest
 left_leaves : (b : Bool) (k : ℕ) (x : Orders) (n : ℕ) → left_of (x n) ≡ left_of (cond {A = Orders} (not b) (put k None x) x n) + cond {A = ℕ} (eqb n k) (cond {A = ℕ} b 0 (left_of (x k))) 0
-left_leaves true k x n = omega (arith, cond_zero (eqb n k))
-left_leaves false k x n =
-    ⊎_elim
-    (λ q. let a : left_of (put k None x n) ≡ 0 = ap left_of (put_same k None x n q) in
-    let c : cond {A = ℕ} (eqb n k) (left_of (x k)) 0 ≡ left_of (x k) = ap (λ (t : Bool). cond {A = ℕ} t (left_of (x k)) 0) (eq-eqb n k q) in
-    let d : left_of (x n) ≡ left_of (x k) = ap (λ (j : ℕ). left_of (x j)) q in
-    omega (arith, a, c, d))
-    (λ q. let a : left_of (put k None x n) ≡ left_of (x n) = ap left_of (put_other k None x n q) in
-    let c : cond {A = ℕ} (eqb n k) (left_of (x k)) 0 ≡ 0 = ap (λ (t : Bool). cond {A = ℕ} t (left_of (x k)) 0) (ne_eqb n k q) in
-    omega (arith, a, c))
-    (cases_eq n k)
+left_leaves b k x n = grind (arith, common_steps)
 
 -- what is told as resting of the order that was active
 module _ (places next k : ℕ) (r : Row) (x : Orders) (rows : List Row) (aside : Aside places next k r x rows) (y : Orders) (rows' : List Row) (h' : Holds places y rows') where
@@ -122,11 +115,6 @@ module _ (places next k : ℕ) (r : Row) (x : Orders) (rows : List Row) (aside :
       → left_at place (b && is_some (order_of r)) rows' ≡ left_of (y k)
   told_left true place f h stays zero = told_if place (f refl) h stays zero aside.active
   told_left false place f h stays zero = left_not place rows' ∙ sym (zero (ap left_of (put_same k None x k refl)))
-
--- of an at-once entry is cancelled what did not fill
-cancelled_is : (b : Bool) (left told shares own swept : ℕ) → shares ≡ own + left → left ≡ told + cond {A = ℕ} b 0 left → (b ≡ false → swept ≡ 0) → cond {A = ℕ} b 0 left ≡ cond {A = ℕ} b 0 (shares - (own + swept))
-cancelled_is true left told shares own swept e f g = refl
-cancelled_is false left told shares own swept e f g = omega (arith, g refl)
 
 module _ (u : Rules) (lawful : Lawful u.before) (taken : Taken u) (places entries : ℕ) (s : Sheet) (t : Tally) (rows : List Row)
     (sound : Sound places s.next s.orders rows) (balanced : Balanced t rows) (low : 1 ≤ s.next)
@@ -189,13 +177,13 @@ module _ (u : Rules) (lawful : Lawful u.before) (taken : Taken u) (places entrie
   first_left = ap left_of (put_same k (order_of r) s.orders k refl ∙ order.1) ∙ ap (λ (z : Row). z.left) (row_is r order.0 order.1)
 
   run_left : left_of (x₂ k) ≡ d.active.left
-  run_left = active_left d.active (x₂ k) k ran.aside.active
+  run_left = grind (arith, active_left, ran)
 
   abbrev gone : ℕ
   gone = cond {A = ℕ} rests 0 d.active.left
 
   leave : (n : ℕ) → left_of (x₂ n) ≡ left_of (leaves (Enter e) k x₂ n) + cond {A = ℕ} (eqb n k) gone 0
-  leave n = left_leaves rests k x₂ n ∙ ap (λ (l : ℕ). left_of (leaves (Enter e) k x₂ n) + cond {A = ℕ} (eqb n k) (cond {A = ℕ} rests 0 l) 0) run_left
+  leave n = grind (arith, left_leaves, run_left)
 
   leave_here : left_of (x₂ k) ≡ left_of (leaves (Enter e) k x₂ k) + gone
   leave_here = leave k ∙ ap (λ (b : Bool). left_of (leaves (Enter e) k x₂ k) + cond {A = ℕ} b gone 0) (eq-eqb k k refl)
@@ -209,55 +197,23 @@ module _ (u : Rules) (lawful : Lawful u.before) (taken : Taken u) (places entrie
       (λ z. let h = fin.swept_left k in omega (arith, h, z))
 
   filled_is : e.shares - told - gone ≡ takes_all fs k
-  filled_is =
-      let a = fin.own_left k in
-      let b = fin.swept_left k in
-      let c = fin.takes k in
-      omega (arith, a, b, c, first_left, leave_here, told_is)
+  filled_is = grind (arith, fin.own_left, fin.swept_left, fin.takes, first_left, leave_here, told_is)
 
   at_once : (b : Bool) → left_of (cond {A = Orders} (not b) (put k None x₂) x₂ k) ≡ takes_all w.fills k + left_of (y k) → b ≡ false → takes_all w.fills k ≡ 0
-  at_once true h q = absurd (false≢true (sym q))
-  at_once false h q = let z : left_of (put k None x₂ k) ≡ 0 = ap left_of (put_same k None x₂ k refl) in omega (arith, h, z)
+  at_once b h q = grind (arith, common_steps)
 
   gone_is : gone ≡ cond {A = ℕ} rests 0 (e.shares - takes_all fs k)
-  gone_is =
-      let a = fin.own_left k in
-      cancelled_is rests d.active.left (left_of (leaves (Enter e) k x₂ k)) e.shares (takes_all d.fills k) (takes_all w.fills k)
-      (omega (arith, a, first_left, run_left)) (omega (arith, run_left, leave_here)) (at_once rests (fin.swept_left k))
-      ∙ ap (λ (n : ℕ). cond {A = ℕ} rests 0 (e.shares - n)) (sym (fin.takes k))
+  gone_is = grind (arith, fin.own_left, fin.swept_left, fin.takes, first_left, leave_here, run_left, at_once)
 
   entered_left : (n : ℕ) → left_of (x₁ n) ≡ left_of (s.orders n) + cond {A = ℕ} (eqb n k) e.shares 0
-  entered_left n =
-      ⊎_elim
-      (λ q. let a : left_of (x₁ n) ≡ left_of (x₁ k) = ap (λ (j : ℕ). left_of (x₁ j)) q in
-      let b : left_of (s.orders n) ≡ 0 = ap left_of (ap s.orders q ∙ unused k s.orders sound.stamped (s.orders k) refl) in
-      let c : cond {A = ℕ} (eqb n k) e.shares 0 ≡ e.shares = ap (λ (v : Bool). cond {A = ℕ} v e.shares 0) (eq-eqb n k q) in
-      omega (arith, a, b, c, first_left))
-      (λ q. let a : left_of (x₁ n) ≡ left_of (s.orders n) = ap left_of (put_other k (order_of r) s.orders n q) in
-      let c : cond {A = ℕ} (eqb n k) e.shares 0 ≡ 0 = ap (λ (v : Bool). cond {A = ℕ} v e.shares 0) (ne_eqb n k q) in
-      omega (arith, a, c))
-      (cases_eq n k)
+  entered_left n = grind (arith, common_steps, first_left, unused, sound.stamped)
 
   abbrev reply : Receipt
   reply = record { number = k; filled = e.shares - told - gone; resting = told; cancelled = gone; fills = length d.fills + length w.fills }
 
   pub enter_kept : Kept u places s t (Enter e) reply fs w.rows (entered u (state_on places s) e rows).state
-  enter_kept = record {
-    traded = fin.traded;
-    receipted = record { order = (refl, filled_is, told_is); cancelled = gone_is; count = sym (length-append d.fills w.fills) };
-    fair = fin.fair;
-    sound = fin.sound;
-    settled = fin.settled;
-    balanced = λ n.
-        let a = fin.own_left n in
-        let b = fin.swept_left n in
-        let c = fin.takes n in
-        let h = fin.held n in
-        let f = balanced n in
-        let g = held_is places s.orders rows sound.holds n in
-        let i = entered_left n in
-        let j = leave n in
-        omega (arith, a, b, c, f, g, h, i, j);
-    state = refl;
-    low = omega (arith, low);
-  }
+  enter_kept =
+      kept_of u places s t (Enter e) d.fills (resting e rows d) w reply (entered u (state_on places s) e rows).state fin
+      (record { order = (refl, filled_is, told_is); cancelled = gone_is; count = sym (length-append d.fills w.fills) })
+      (λ n. grind (arith, fin.own_left n, fin.swept_left n, fin.takes n, fin.held n, balanced n, held_is places s.orders rows sound.holds n, entered_left n, leave n))
+      refl (omega (arith, low))

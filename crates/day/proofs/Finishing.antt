@@ -1,6 +1,7 @@
 -- The end of an accepted call: the sweep, and what is then known.
-use Rattle.std.proofs.Common.{◌≡◌, ℕ, ◌+◌, ◌<◌, Bool, true, false, cond, eqb, List, [], ◌++◌, length, get_or, Some, None, Option, sym, refl, ap, ◌∙◌, subst, ⊎_elim, arith}
-use Rattle.std.proofs.lemmas.Bool.{cases_eq, eq-eqb, ne_eqb, lt-ltb}
+use Rattle.std.proofs.Common.{◌≡◌, ℕ, ◌+◌, ◌<◌, Bool, true, false, cond, eqb, List, [], ◌++◌, length, get_or, Some, None, Option, sym, refl, ap, ◌∙◌, subst, arith}
+use Rattle.std.proofs.lemmas.Grind.{common_steps}
+use Rattle.std.proofs.lemmas.Bool.{lt-ltb}
 use Rattle.orders.specs.Rows.{order_of, cleared}
 use Rattle.orders.specs.declared.call.Call.{Call}
 use Rattle.orders.specs.declared.call.Fill.{Fill}
@@ -9,7 +10,7 @@ use Rattle.orders.specs.declared.row.Row.{Row}
 use Rattle.matching.specs.Market.{Market}
 use Rattle.matching.specs.Sweeps.{Swept, still, sweep}
 use Rattle.matching.proofs.Foremost.{Lawful}
-use Rattle.matching.proofs.Options.{none_some, some_same}
+use Rattle.std.proofs.lemmas.Option.{none-some, same_Some}
 use Rattle.places.specs.Phases.{is_open}
 use Rattle.places.specs.Places.{left_at}
 use Rattle.places.specs.declared.phase.Phase.{Phase}
@@ -25,7 +26,7 @@ use Rattle.day.proofs.Keeping.{state_on, Sound}
 use Rattle.day.proofs.Shares.{fair_left}
 use Rattle.day.proofs.Sweepings.{sweep_law}
 use Rattle.day.proofs.Looking.{held_is}
-use Rattle.day.proofs.Putting.{put_same, put_other, row_order}
+use Rattle.day.proofs.Putting.{row_order}
 use Rattle.day.proofs.Staying.{Stays, stays_same, sweep_stays}
 use Rattle.day.proofs.Leaving.{leaves_took, took_append, takes_append, fair_append, turns_quiet}
 
@@ -116,7 +117,7 @@ module _ (places : ℕ) (x y : Orders) (rows rows' : List Row) (h : Holds places
   within = omega (arith, h.size, h'.size)
 
   same_number : (o : Order) → order_of (get_or rows' i cleared) ≡ Some o → o.number ≡ a.number
-  same_number o q = let w = stays i o q in w.2 ∙ ap (λ (z : Order). z.number) (some_same w.0 a (sym w.1 ∙ e))
+  same_number o q = let w = stays i o q in w.2 ∙ ap (λ (z : Order). z.number) (same_Some w.0 a (sym w.1 ∙ e))
 
   same_place : (k : ℕ) (o : Order) → k < length rows' → order_of (get_or rows' k cleared) ≡ Some o → o.number ≡ a.number → k ≡ i
   same_place k o lk q n = let w = stays k o q in h.once k i w.0 a (omega (arith, h.size, h'.size)) l w.1 e (sym w.2 ∙ n)
@@ -126,7 +127,7 @@ module _ (places : ℕ) (x y : Orders) (rows rows' : List Row) (h : Holds places
   left_none q (Some o) t =
       let w = h'.all a.number o t in
       let k = same_place w.0 o w.1 (row_order (get_or rows' w.0 cleared) o w.2) w.3 in
-      absurd (none_some o (sym q ∙ ap (λ (j : ℕ). order_of (get_or rows' j cleared)) (sym k) ∙ row_order (get_or rows' w.0 cleared) o w.2))
+      absurd (none-some o (sym q ∙ ap (λ (j : ℕ). order_of (get_or rows' j cleared)) (sym k) ∙ row_order (get_or rows' w.0 cleared) o w.2))
 
   left_if : (b : Option Order) → order_of (get_or rows' i cleared) ≡ b → (get_or rows' i cleared).left ≡ left_of (y a.number)
   left_if None q = ap (λ (r : Row). r.left) (h'.free i within q) ∙ left_none q (y a.number) refl
@@ -141,13 +142,8 @@ module _ (places : ℕ) (x y : Orders) (rows rows' : List Row) (h : Holds places
   left_at_lem = ap (λ (b : Bool). cond {A = ℕ} b (get_or rows' i cleared).left 0) (lt-ltb i (length rows') within) ∙ left_if (order_of (get_or rows' i cleared)) refl
 
 pub left_not : (place : Option ℕ) (rows : List Row) → left_at place false rows ≡ 0
-left_not None rows = refl
-left_not (Some i) rows = refl
+left_not place rows = grind (arith, common_steps)
 
 -- shares left where one number of the sheet is written
 pub put_left : (k : ℕ) (b : Option Order) (s : Orders) (n : ℕ) → left_of (put k b s n) ≡ cond {A = ℕ} (eqb n k) (left_of b) (left_of (s n))
-put_left k b s n =
-    ⊎_elim
-    (λ x. ap left_of (put_same k b s n x) ∙ sym (ap (λ (t : Bool). cond {A = ℕ} t (left_of b) (left_of (s n))) (eq-eqb n k x)))
-    (λ x. ap left_of (put_other k b s n x) ∙ sym (ap (λ (t : Bool). cond {A = ℕ} t (left_of b) (left_of (s n))) (ne_eqb n k x)))
-    (cases_eq n k)
+put_left k b s n = grind arith

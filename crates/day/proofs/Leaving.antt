@@ -1,40 +1,26 @@
 -- An entered order that does not rest, and the fills after it has left.
-use Rattle.std.proofs.Common.{◌≡◌, ℕ, ◌+◌, ◌<◌, Bool, true, false, cond, List, [], ◌∷◌, ◌++◌, Some, None, Option, sym, refl, ap, ◌∙◌, subst, ⊎_elim, arith}
-use mathlib.Core.Path.{fun_ext}
+use Rattle.std.proofs.Common.{◌≡◌, ℕ, ◌+◌, ◌<◌, List, [], ◌∷◌, ◌++◌, Some, None, sym, refl, ap, ◌∙◌, subst, ⊎_elim, arith}
 use Rattle.std.proofs.lemmas.Bool.{cases_eq}
 use Rattle.orders.specs.declared.call.Call.{Call}
 use Rattle.orders.specs.declared.call.Fill.{Fill}
 use Rattle.orders.specs.declared.order.Order.{Order}
 use Rattle.matching.specs.Market.{Market}
-use Rattle.day.specs.Sheets.{Orders, put, less_of, names, took, took_all, passing, leaves, takes_all}
+use Rattle.day.specs.Sheets.{Orders, put, took, took_all, leaves, takes_all}
 use Rattle.day.specs.Fairness.{Fair, AllFair, Quiet, active_number, passive_number}
 use Rattle.day.specs.Trades.{InTurn}
-use Rattle.day.proofs.Putting.{put_same, put_other, gone_was}
+use Rattle.day.proofs.Putting.{put_other, gone_was}
 use Rattle.day.proofs.Changing.{took_was}
-
-cond_none : (b : Bool) (q : ℕ) → cond {A = Option Order} b (less_of q None) None ≡ None
-cond_none true q = refl
-cond_none false q = refl
 
 -- an order that is gone stays so
 put_took : (k : ℕ) (f : Fill) (s : Orders) → put k None (took f s) ≡ took f (put k None s)
-put_took k f s =
-    fun_ext
-    (λ n. ⊎_elim
-    (λ x. put_same k None (took f s) n x ∙ sym (ap (λ (b : Option Order). cond {A = Option Order} (names f n) (less_of f.shares b) b) (put_same k None s n x) ∙ cond_none (names f n) f.shares))
-    (λ x. put_other k None (took f s) n x ∙ sym (ap (λ (b : Option Order). cond {A = Option Order} (names f n) (less_of f.shares b) b) (put_other k None s n x)))
-    (cases_eq n k))
+put_took k f s = grind arith
 
 put_all : (k : ℕ) (fs : List Fill) (s : Orders) → put k None (took_all fs s) ≡ took_all fs (put k None s)
 put_all k [] s = refl
 put_all k (f ∷ fs) s = put_all k fs (took f s) ∙ ap (took_all fs) (put_took k f s)
 
-leave_if : (b : Bool) (k : ℕ) (fs : List Fill) (s : Orders) → cond {A = Orders} b (put k None (took_all fs s)) (took_all fs s) ≡ took_all fs (cond {A = Orders} b (put k None s) s)
-leave_if true k fs s = put_all k fs s
-leave_if false k fs s = refl
-
 pub leaves_took : (c : Call) (k : ℕ) (fs : List Fill) (s : Orders) → leaves c k (took_all fs s) ≡ took_all fs (leaves c k s)
-leaves_took c k fs s = leave_if (passing c) k fs s
+leaves_took c k fs s = grind (arith, put_all)
 
 pub took_append : (fs gs : List Fill) (s : Orders) → took_all (fs ++ gs) s ≡ took_all gs (took_all fs s)
 took_append [] gs s = refl
@@ -90,9 +76,5 @@ module _ (m : Market) where
   fairs_with k (f ∷ fs) s h r =
       (fair_with k s f h r.0, fairs_with k fs (took f s) (youngest_took k s f h) (subst (λ (o : Orders). AllFair m o fs) (sym (put_took k f s)) r.1))
 
-  leave_fair : (b : Bool) (k : ℕ) (fs : List Fill) (s : Orders) → Youngest k s → AllFair m (cond {A = Orders} b (put k None s) s) fs → AllFair m s fs
-  leave_fair true k fs s h r = fairs_with k fs s h r
-  leave_fair false k fs s h r = r
-
   pub leaves_fair : (c : Call) (k : ℕ) (fs : List Fill) (s : Orders) → Youngest k s → AllFair m (leaves c k s) fs → AllFair m s fs
-  leaves_fair c k fs s h r = leave_fair (passing c) k fs s h r
+  leaves_fair c k fs s h r = grind (arith, fairs_with)

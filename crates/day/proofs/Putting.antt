@@ -1,26 +1,25 @@
 -- One number of the sheet and one place are written together.
-use Rattle.std.proofs.Common.{◌≡◌, ℕ, ◌<◌, Bool, cond, ◌⊎◌, List, length, get_or, set, Some, None, Option, sym, refl, ap, ◌∙◌, subst, inl, inr, ⊎_elim, arith}
+use Rattle.std.proofs.Common.{◌≡◌, ℕ, ◌<◌, ◌⊎◌, List, length, get_or, set, Some, None, Option, sym, refl, ap, ◌∙◌, inl, inr, ⊎_elim, arith}
+use Rattle.std.proofs.lemmas.Grind.{common_steps}
 use Rattle.std.proofs.lemmas.List.{get_or-set_same, get_or-set_other, length-set}
-use Rattle.std.proofs.lemmas.Bool.{cases_eq, eq-eqb, ne_eqb}
+use Rattle.std.proofs.lemmas.Bool.{cases_eq}
 use Rattle.orders.proofs.Decoding.{order_back}
 use Rattle.orders.specs.Rows.{order_of, row_of, cleared}
 use Rattle.orders.specs.declared.order.Order.{Order}
 use Rattle.orders.specs.declared.row.Row.{Row}
-use Rattle.matching.proofs.Options.{none_some, some_same}
 use Rattle.matching.proofs.Rows.{row_is}
 use Rattle.day.specs.Sheets.{Orders, put}
 use Rattle.day.specs.Law.{Holds}
 
 pub put_same : (k : ℕ) (o : Option Order) (s : Orders) (n : ℕ) → n ≡ k → put k o s n ≡ o
-put_same k o s n e = ap (λ (b : Bool). cond b o (s n)) (eq-eqb n k e)
+put_same k o s n e = grind arith
 
 pub put_other : (k : ℕ) (o : Option Order) (s : Orders) (n : ℕ) → (n ≡ k → ⊥) → put k o s n ≡ s n
-put_other k o s n e = ap (λ (b : Bool). cond b o (s n)) (ne_eqb n k e)
+put_other k o s n e = grind arith
 
 -- an order that stands without that of number k has another number, and stood
 pub gone_was : (k : ℕ) (s : Orders) (n : ℕ) (o : Order) → put k None s n ≡ Some o → (n ≡ k → ⊥) × (s n ≡ Some o)
-gone_was k s n o e =
-    ⊎_elim (λ x. absurd (none_some o (sym (put_same k None s n x) ∙ e))) (λ x. (x, sym (put_other k None s n x) ∙ e)) (cases_eq n k)
+gone_was k s n o e = grind arith
 
 -- the order of a row that is known
 pub row_order : (r : Row) (o : Order) → r ≡ row_of o → order_of r ≡ Some o
@@ -34,12 +33,10 @@ pub cleared_none : (v : Row) → v ≡ cleared → order_of v ≡ None
 cleared_none v e = ap order_of e
 
 pub row_number : (k : ℕ) (v : Row) → RowFor k v → (o : Order) → order_of v ≡ Some o → o.number ≡ k
-row_number k v (inl e) o q = absurd (none_some o (sym (cleared_none v e) ∙ q))
-row_number k v (inr w) o q = ap (λ (x : Order). x.number) (some_same o w.0 (sym q ∙ row_order v w.0 w.1)) ∙ w.2
+row_number k v h o q = grind (arith, row_order, cleared_none)
 
 row_free : (k : ℕ) (v : Row) → RowFor k v → order_of v ≡ None → v ≡ cleared
-row_free k v (inl e) q = e
-row_free k v (inr w) q = absurd (none_some w.0 (sym q ∙ row_order v w.0 w.1))
+row_free k v h q = grind (arith, row_order)
 
 -- place i is free or holds the order of number k, and no other place does
 pub record Place (s : Orders) (rows : List Row) (i k : ℕ) : Type 0 where
@@ -49,20 +46,12 @@ pub record Place (s : Orders) (rows : List Row) (i k : ℕ) : Type 0 where
 
 -- the place of an order
 pub place_of : (places : ℕ) (s : Orders) (rows : List Row) → Holds places s rows → (i : ℕ) (o : Order) → i < length rows → order_of (get_or rows i cleared) ≡ Some o → Place s rows i o.number
-place_of places s rows h i o l e = record {
-  within = l;
-  mine = λ x q. ap (λ (y : Order). y.number) (some_same x o (sym q ∙ e));
-  here = λ x q. e ∙ sym (h.only i o l e) ∙ q;
-}
+place_of places s rows h i o l e = grind arith
 
 module _ (places : ℕ) (s : Orders) (rows : List Row) (h : Holds places s rows) (i k : ℕ) (at : Place s rows i k) (v : Row) (for : RowFor k v) (t : Orders) (named : t k ≡ order_of v) (others : (n : ℕ) → (n ≡ k → ⊥) → t n ≡ s n) where
   -- a place after the write
   written_at : (j : ℕ) → ((j ≡ i) × (get_or (set rows i v) j cleared ≡ v)) ⊎ ((j ≡ i → ⊥) × (get_or (set rows i v) j cleared ≡ get_or rows j cleared))
-  written_at j =
-      ⊎_elim
-      (λ e. inl (e, subst (λ (x : ℕ). get_or (set rows i v) x cleared ≡ v) (sym e) (get_or-set_same rows i v cleared at.within)))
-      (λ n. inr (n, get_or-set_other rows i j v cleared n))
-      (cases_eq j i)
+  written_at j = grind (arith, common_steps)
 
   long : length (set rows i v) ≡ length rows
   long = length-set rows i v
@@ -98,11 +87,7 @@ module _ (places : ℕ) (s : Orders) (rows : List Row) (h : Holds places s rows)
       (stood a x la qa)
 
   free' : (j : ℕ) → j < length rows → order_of (get_or (set rows i v) j cleared) ≡ None → get_or (set rows i v) j cleared ≡ cleared
-  free' j l q =
-      ⊎_elim
-      (λ w. w.1 ∙ row_free k v for (ap order_of (sym w.1) ∙ q))
-      (λ w. w.1 ∙ h.free j l (ap order_of (sym w.1) ∙ q))
-      (written_at j)
+  free' j l q = grind (arith, written_at, row_free, h.free)
 
   -- the places hold the sheet that differs at the number of the place that was written
   pub write_holds : Holds places t (set rows i v)

@@ -1,7 +1,8 @@
 -- A call is sent back just when a cause holds on the sheet, with the first that does.
-use Rattle.std.proofs.Common.{◌≡◌, ℕ, ◌<◌, ◌≤◌, Bool, true, false, not, ◌&&◌, eqb, ltb, List, [], ◌∷◌, ◌++◌, length, is_some, Some, None, Ok, Err, Decides, Option, Result, sym, refl, ap, ◌∙◌, inl, inr, ⊎_elim, arith}
-use Rattle.std.proofs.lemmas.Bool.{both_ways, not-false, eqb-true, cases_eq}
-use Rattle.std.proofs.lemmas.Bool.Decides.{Decides-eqb, Decides-not, Decides-and, Decides-ltb, Decides-like}
+use Rattle.std.proofs.Common.{◌≡◌, ℕ, ◌<◌, ◌≤◌, Bool, true, false, not, ◌&&◌, ltb, List, [], ◌∷◌, ◌++◌, length, is_some, Some, None, Ok, Err, Decides, Option, Result, sym, ap, ◌∙◌, ⊎_elim, arith}
+use Rattle.std.proofs.lemmas.Grind.{common_steps}
+use Rattle.std.proofs.lemmas.Bool.{not-false, cases_eq}
+use Rattle.std.proofs.lemmas.Bool.Decides.{Decides-not, Decides-and, Decides-ltb, Decides-like}
 use Rattle.orders.specs.Codes.{kind_of}
 use Rattle.orders.specs.Quotes.{quote_of}
 use Rattle.orders.specs.Ranges.{last_stamp}
@@ -14,9 +15,8 @@ use Rattle.orders.specs.declared.refusal.Refusal.{Refusal}
 use Rattle.orders.specs.declared.refusal.Refusal.TheVariants as refusal
 use Rattle.orders.specs.declared.row.Row.{Row}
 use Rattle.terms.specs.declared.rejection.Rejection.{Rejection}
-use Rattle.terms.specs.declared.rejection.Rejection.TheVariants.{BadKind, BadParty, BadShares, BadLimit, BadMinimum}
 use Rattle.matching.specs.Sweeps.{occupied}
-use Rattle.places.specs.Amendments.{loses_time, amended_entry}
+use Rattle.orders.specs.Amendments.{loses_time, amended_entry}
 use Rattle.places.specs.Phases.{is_halted, is_closed, fits}
 use Rattle.places.specs.Places.{free_place, place_of, row_at}
 use Rattle.places.specs.Remainders.{rests_as, at_once_as}
@@ -37,101 +37,39 @@ abbrev pub Tells : Result (Unit {0}) Refusal → List Cause → Type 0
 Tells (Ok u) cs = Passed cs
 Tells (Err x) cs = Refused cs x
 
-tells_later : (v : Result (Unit {0}) Refusal) (c : Cause) (cs : List Cause) → (c.holds → ⊥) → Tells v cs → Tells v (c ∷ cs)
-tells_later (Ok u) c cs n t = (n, t)
-tells_later (Err x) c cs n t = inr (n, t)
-
 tells_unless : (b : Bool) (x : Refusal) (T : Type 0) (v : Result (Unit {0}) Refusal) (cs : List Cause) → Decides b T → (b ≡ false → Tells v cs) → Tells (unless b x v) (cause x T ∷ cs)
-tells_unless true x T v cs d f = inl (d.0 refl, refl)
-tells_unless false x T v cs d f = tells_later v (cause x T) cs (λ t. both_ways false refl (d.1 t)) (f refl)
-
-ok_err : (u : Unit {0}) (x : Rejection) → ◌≡◌ {A = Result (Unit {0}) Rejection} (Ok u) (Err x) → ⊥
-ok_err u x e = let z : ◌≡◌ {A = ℕ} 0 1 = cc in omega arith
+tells_unless b x T v cs d f = grind (arith, common_steps)
 
 -- a verdict that is judged so on the sheet too
 abbrev Agrees : Result (Unit {0}) Rejection → (Result (Unit {0}) Rejection → Type 0) → Type 0
 Agrees v Judged = (w : Result (Unit {0}) Rejection) → (v ≡ w → Judged w) × (Judged w → v ≡ w)
 
-module _ (Judged : Result (Unit {0}) Rejection → Type 0) where
-  other : (v : Result (Unit {0}) Rejection) → Agrees v Judged → (x : Rejection) → (v ≡ Err x → ⊥) → Judged (Err x) → ⊥
-  other v d x n j = n ((d (Err x)).1 j)
-
-  tells_rejected : (v : Result (Unit {0}) Rejection) (next : Result (Unit {0}) Refusal) (cs : List Cause) → Agrees v Judged → (v ≡ Ok tt → Tells next cs) → Tells (unless_rejected v next) (field_causes Judged ++ cs)
-  tells_rejected (Ok u) next cs d f =
-      let n : (x : Rejection) → Judged (Err x) → ⊥ = λ x. other (Ok u) d x (ok_err u x) in
-      tells_later next _ _ (n BadKind) (tells_later next _ _ (n BadParty) (tells_later next _ _ (n BadShares) (tells_later next _ _ (n BadLimit) (tells_later next _ _ (n BadMinimum) (f refl)))))
-  tells_rejected (Err BadKind) next cs d f = inl ((d (Err BadKind)).0 refl, refl)
-  tells_rejected (Err BadParty) next cs d f =
-      inr (other (Err BadParty) d BadKind (λ e. let z : ◌≡◌ {A = ℕ} 0 1 = cc in omega arith), inl ((d (Err BadParty)).0 refl, refl))
-  tells_rejected (Err BadShares) next cs d f =
-      inr (
-        other (Err BadShares) d BadKind (λ e. let z : ◌≡◌ {A = ℕ} 0 1 = cc in omega arith),
-        inr (other (Err BadShares) d BadParty (λ e. let z : ◌≡◌ {A = ℕ} 0 1 = cc in omega arith), inl ((d (Err BadShares)).0 refl, refl)),
-      )
-  tells_rejected (Err BadLimit) next cs d f =
-      inr (
-        other (Err BadLimit) d BadKind (λ e. let z : ◌≡◌ {A = ℕ} 0 1 = cc in omega arith),
-        inr (
-          other (Err BadLimit) d BadParty (λ e. let z : ◌≡◌ {A = ℕ} 0 1 = cc in omega arith),
-          inr (other (Err BadLimit) d BadShares (λ e. let z : ◌≡◌ {A = ℕ} 0 1 = cc in omega arith), inl ((d (Err BadLimit)).0 refl, refl)),
-        ),
-      )
-  tells_rejected (Err BadMinimum) next cs d f =
-      inr (
-        other (Err BadMinimum) d BadKind (λ e. let z : ◌≡◌ {A = ℕ} 0 1 = cc in omega arith),
-        inr (
-          other (Err BadMinimum) d BadParty (λ e. let z : ◌≡◌ {A = ℕ} 0 1 = cc in omega arith),
-          inr (
-            other (Err BadMinimum) d BadShares (λ e. let z : ◌≡◌ {A = ℕ} 0 1 = cc in omega arith),
-            inr (other (Err BadMinimum) d BadLimit (λ e. let z : ◌≡◌ {A = ℕ} 0 1 = cc in omega arith), inl ((d (Err BadMinimum)).0 refl, refl)),
-          ),
-        ),
-      )
-
-tells_handed : (a b c : Bool) (next : Result (Unit {0}) Refusal) (cs : List Cause)
-    → Tells (unless a refusal.Closed (unless b refusal.WrongPlaces (unless c refusal.FewFills next))) cs → Tells (and_then (handed_in a b c) next) cs
-tells_handed true b c next cs t = t
-tells_handed false true c next cs t = t
-tells_handed false false true next cs t = t
-tells_handed false false false next cs t = t
+tells_rejected : (Judged : Result (Unit {0}) Rejection → Type 0) (v : Result (Unit {0}) Rejection) (next : Result (Unit {0}) Refusal) (cs : List Cause) → Agrees v Judged → (v ≡ Ok tt → Tells next cs) → Tells (unless_rejected v next) (field_causes Judged ++ cs)
+tells_rejected Judged v next cs d f = grind (arith, common_steps)
 
 -- the tests of the phase
-closed_decides : (p : Phase) → Decides (is_closed p) (p ≡ phase.Closed)
-closed_decides phase.Open = ((λ e. cc), (λ e. cc))
-closed_decides phase.Halted = ((λ e. cc), (λ e. cc))
-closed_decides phase.Closed = ((λ e. refl), (λ e. refl))
-
 halted_decides : (p : Phase) → Decides (is_halted p) (p ≡ phase.Halted)
-halted_decides phase.Open = ((λ e. cc), (λ e. cc))
-halted_decides phase.Halted = ((λ e. refl), (λ e. refl))
-halted_decides phase.Closed = ((λ e. cc), (λ e. cc))
+halted_decides p = grind (arith, common_steps)
 
 halt_decides : (p : Phase) → Decides (fits p event.Halt) (p ≡ phase.Open)
-halt_decides phase.Open = ((λ e. refl), (λ e. refl))
-halt_decides phase.Halted = ((λ e. cc), (λ e. cc))
-halt_decides phase.Closed = ((λ e. cc), (λ e. cc))
+halt_decides p = grind (arith, common_steps)
 
 resume_decides : (p : Phase) → Decides (fits p event.Resume) (p ≡ phase.Halted)
-resume_decides phase.Open = ((λ e. cc), (λ e. cc))
-resume_decides phase.Halted = ((λ e. refl), (λ e. refl))
-resume_decides phase.Closed = ((λ e. cc), (λ e. cc))
+resume_decides p = grind (arith, common_steps)
 
 close_fits : (p : Phase) → is_closed p ≡ false → Tells (unless (not (fits p event.Close)) refusal.WrongPhase (Ok tt)) []
-close_fits phase.Open e = tt
-close_fits phase.Halted e = tt
-close_fits phase.Closed e = absurd (both_ways true e refl)
+close_fits p e = grind (arith, common_steps)
 
 bool_decides : (b : Bool) → Decides b (b ≡ true)
 bool_decides b = ((λ e. e), (λ e. e))
 
 none_decides : {X : Type 0} (x : Option X) → Decides (not (is_some x)) (x ≡ None)
-none_decides None = ((λ e. refl), (λ e. refl))
-none_decides (Some o) = ((λ e. cc), (λ e. cc))
+none_decides x = grind (arith, common_steps)
 
 -- the cause of any call, and what it does when there is none
 abbrev pub cause_of : Rules → State → Call → (entries : ℕ) → List Row → Result (Unit {0}) Refusal
 cause_of u s (Enter e) entries rows = entry_cause u s e entries rows
-cause_of u s (Amend n shares limit) entries rows = amend_cause u s n shares limit entries rows
+cause_of u s (Amend a) entries rows = amend_cause u s a.number a.shares a.limit entries rows
 cause_of u s (Cancel n) entries rows = cancel_cause s n entries rows
 cause_of u s (Quote bid offer) entries rows = quote_cause s bid offer entries rows
 cause_of u s Withdraw entries rows = withdraw_cause s entries rows
@@ -141,7 +79,7 @@ cause_of u s Close entries rows = event_cause s event.Close entries rows
 
 abbrev pub done_of : Rules → State → Call → List Row → After
 done_of u s (Enter e) rows = entered u s e rows
-done_of u s (Amend n shares limit) rows = amended u s n shares limit rows
+done_of u s (Amend a) rows = amended u s a.number a.shares a.limit rows
 done_of u s (Cancel n) rows = cancelled u s n rows
 done_of u s (Quote bid offer) rows = quoted u s bid offer rows
 done_of u s Withdraw rows = withdrawn u s rows
@@ -150,14 +88,7 @@ done_of u s Resume rows = turned u s event.Resume rows
 done_of u s Close rows = turned u s event.Close rows
 
 pub answer_is : (u : Rules) (s : State) (c : Call) (entries : ℕ) (rows : List Row) → answer u s c entries rows ≡ decided (cause_of u s c entries rows) s rows (done_of u s c rows)
-answer_is u s (Enter e) entries rows = refl
-answer_is u s (Amend n shares limit) entries rows = refl
-answer_is u s (Cancel n) entries rows = refl
-answer_is u s (Quote bid offer) entries rows = refl
-answer_is u s Withdraw entries rows = refl
-answer_is u s Halt entries rows = refl
-answer_is u s Resume entries rows = refl
-answer_is u s Close entries rows = refl
+answer_is u s c entries rows = grind (arith, common_steps)
 
 module _ (u : Rules) (places : ℕ) (s : Sheet) (entries : ℕ) (h : List Row) (known : length h ≡ places → Sound places s.next s.orders h) where
   abbrev l : Lists
@@ -166,12 +97,7 @@ module _ (u : Rules) (places : ℕ) (s : Sheet) (entries : ℕ) (h : List Row) (
   -- the lists that are handed in
   lists_tell : (next : Result (Unit {0}) Refusal) (cs : List Cause) → (is_closed s.phase ≡ false → length h ≡ places → Tells next cs)
       → Tells (and_then (handed_in (is_closed s.phase) (other_places (state_on places s) h) (ltb entries (length h))) next) (list_causes places s l ++ cs)
-  lists_tell next cs f =
-      tells_handed (is_closed s.phase) (other_places (state_on places s) h) (ltb entries (length h)) next (list_causes places s l ++ cs)
-      (tells_unless (is_closed s.phase) refusal.Closed (s.phase ≡ phase.Closed) _ _ (closed_decides s.phase)
-      (λ a. tells_unless (other_places (state_on places s) h) refusal.WrongPlaces (length h ≡ places → ⊥) _ _ (Decides-not (eqb (length h) places) (Decides-eqb (length h) places))
-      (λ b. tells_unless (ltb entries (length h)) refusal.FewFills (entries < length h) _ _ (Decides-ltb entries (length h))
-      (λ c. f a (eqb-true (length h) places (not-false (eqb (length h) places) b))))))
+  lists_tell next cs f = grind arith
 
   module _ (k : Sound places s.next s.orders h) (e : length h ≡ places) where
     counts : standing s.orders s.next ≡ occupied h
@@ -214,7 +140,7 @@ module _ (u : Rules) (places : ℕ) (s : Sheet) (entries : ℕ) (h : List Row) (
         let p = place_holds places s.orders h k.holds n i.0 i.1 in
         (p.1, p.2)
 
-    amend_tells : (n shares limit : ℕ) → Tells (unless (not (is_some (place_of n h))) refusal.NotResting (unless_rejected (u.verdict (amended_entry (row_at (place_of n h) h) shares limit) s.lot) (unless (loses_time (row_at (place_of n h) h) shares limit && ltb last_stamp s.next) refusal.NoStamp (Ok tt)))) (call_causes u places s (Amend n shares limit))
+    amend_tells : (n shares limit : ℕ) → Tells (unless (not (is_some (place_of n h))) refusal.NotResting (unless_rejected (u.verdict (amended_entry (row_at (place_of n h) h) shares limit) s.lot) (unless (loses_time (row_at (place_of n h) h) shares limit && ltb last_stamp s.next) refusal.NoStamp (Ok tt)))) (call_causes u places s (Amend (record { number = n; shares = shares; limit = limit })))
     amend_tells n shares limit =
         tells_unless (not (is_some (place_of n h))) refusal.NotResting (s.orders n ≡ None) _ _ (resting_decides places s.orders h k.holds n)
         (λ a. let o = stands n a in
@@ -224,7 +150,7 @@ module _ (u : Rules) (places : ℕ) (s : Sheet) (entries : ℕ) (h : List Row) (
   -- the outcome of any call is that of the first cause that holds
   pub told : (c : Call) → Tells (cause_of u (state_on places s) c entries h) (causes u places s l c)
   told (Enter x) = lists_tell _ (call_causes u places s (Enter x)) (λ a e. enter_tells (known e) e x)
-  told (Amend n shares limit) = lists_tell _ (call_causes u places s (Amend n shares limit)) (λ a e. amend_tells (known e) e n shares limit)
+  told (Amend a) = lists_tell _ (call_causes u places s (Amend a)) (λ l e. amend_tells (known e) e a.number a.shares a.limit)
   told (Cancel n) = lists_tell _ (call_causes u places s (Cancel n)) (λ a e. tells_unless (not (is_some (place_of n h))) refusal.NotResting (s.orders n ≡ None) _ _ (resting_decides places s.orders h (known e).holds n) (λ b. tt))
   told (Quote bid offer) = lists_tell _ (call_causes u places s (Quote bid offer)) (λ a e. tells_unless (not (is_some (quote_of bid offer))) refusal.WrongQuote (quote_of bid offer ≡ None) _ _ (none_decides (quote_of bid offer)) (λ b. tt))
   told Withdraw = lists_tell _ (call_causes u places s Withdraw) (λ a e. tt)

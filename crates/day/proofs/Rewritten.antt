@@ -1,7 +1,9 @@
 -- An accepted amendment, cancel, quote, withdrawal or event keeps the law.
-use Rattle.std.proofs.Common.{◌≡◌, ℕ, ◌+◌, ◌-◌, ◌<◌, ◌≤◌, Bool, true, false, cond, not, ◌&&◌, eqb, ltb, List, [], length, get_or, set, is_some, Some, None, Ok, Option, sym, refl, ap, ◌∙◌, subst, ⊎_elim, arith}
+use Rattle.std.proofs.Common.{◌≡◌, ℕ, ◌+◌, ◌-◌, ◌<◌, ◌≤◌, Bool, true, false, cond, not, ◌&&◌, eqb, ltb, List, [], length, get_or, set, is_some, Some, None, Ok, Option, sym, refl, ap, ◌∙◌, subst, arith}
+use Rattle.std.proofs.lemmas.Bool.Decides.{nat_tests}
+use Rattle.std.proofs.lemmas.Grind.{common_steps}
 use Rattle.std.proofs.lemmas.List.{get_or-set_same, length-set}
-use Rattle.std.proofs.lemmas.Bool.{cases_eq, eq-eqb, ne_eqb, ltb-false, not-false, both_ways}
+use Rattle.std.proofs.lemmas.Bool.{eq-eqb, not-false}
 use Rattle.orders.specs.Ranges.{last_stamp}
 use Rattle.orders.specs.Rows.{order_of, row_of, entry_row, cleared}
 use Rattle.orders.specs.declared.call.Call.{Call}
@@ -12,19 +14,18 @@ use Rattle.orders.specs.declared.order.Order.{Order}
 use Rattle.orders.specs.declared.row.Row.{Row}
 use Rattle.matching.specs.Sweeps.{Swept}
 use Rattle.matching.proofs.Foremost.{Lawful}
-use Rattle.places.specs.Amendments.{loses_time, amended_row, amended_entry}
+use Rattle.orders.specs.Amendments.{loses_time, amended_row, amended_entry}
 use Rattle.places.specs.Phases.{fits, phase_after}
-use Rattle.places.specs.Places.{place_of, row_at, placed, left_at}
+use Rattle.places.specs.Places.{place_of, row_at, left_at}
 use Rattle.places.specs.declared.phase.Event.{Event}
 use Rattle.places.specs.declared.phase.Event.TheVariants as event
 use Rattle.places.specs.declared.phase.Phase.{Phase}
 use Rattle.places.specs.declared.phase.Phase.TheVariants as phase
 use Rattle.book.specs.States.{State, Rules, with_phase, stamped_if}
 use Rattle.book.specs.Causes.{amend_matter, cancel_matter, event_matter}
-use Rattle.book.specs.Calls.{After, swept, settled, rewritten, amended_in, amended, cancelled, quoted, withdrawn, turned}
+use Rattle.book.specs.Calls.{After, swept, settled, rewritten, amended, cancelled, quoted, withdrawn, turned}
 use Rattle.book.proofs.Admitted.{Clear}
-use Rattle.day.specs.Sheets.{Orders, Sheet, put, amended_to, restamps, written, passing, leaves, accepted, left_of, takes_all}
-use Rattle.day.specs.Fairness.{market_on, AllFair}
+use Rattle.day.specs.Sheets.{Orders, Sheet, put, amended_to, restamps, written, passing, leaves, accepted, left_of}
 use Rattle.day.specs.Trades.{OwnFills}
 use Rattle.day.specs.Receipts as receipts
 use Rattle.day.specs.Receipts.{number_in, OrderTold}
@@ -34,38 +35,17 @@ use Rattle.day.proofs.Looking.{some_is, place_holds, held_is}
 use Rattle.day.proofs.Putting.{put_same}
 use Rattle.day.proofs.Writing.{placed_at, amended_order, amend_sound, cancel_sound}
 use Rattle.day.proofs.Finishing.{Ready, Finished, finish, left_at_lem, put_left}
-use Rattle.day.proofs.Entered.{Kept, Taken}
+use Rattle.day.proofs.Entered.{Kept, kept_of, Taken}
 
 -- an accepted call with all that is known after it
 abbrev pub Outcome : Rules → (places : ℕ) → Sheet → Tally → Call → After → Type 0
 Outcome u places s t c a = (r : Receipt) × (a.reply ≡ Ok r) × Kept u places s t c r a.fills a.rows a.state
 
 one_or_more : (b : Bool) (next : ℕ) → 1 ≤ next → 1 ≤ cond {A = ℕ} b (next + 1) next
-one_or_more true next h = omega (arith, h)
-one_or_more false next h = h
+one_or_more b next h = grind (arith, common_steps)
 
 stamp_left : (b : Bool) (next : ℕ) → (b && ltb last_stamp next) ≡ false → b ≡ true → next ≤ last_stamp
-stamp_left true next f q = ltb-false last_stamp next f
-stamp_left false next f q = absurd (both_ways false refl q)
-
--- a value under one number
-at_key : (f : ℕ → ℕ) (m n : ℕ) → cond {A = ℕ} (eqb m n) (f m) 0 ≡ cond {A = ℕ} (eqb m n) (f n) 0
-at_key f m n =
-    ⊎_elim
-    (λ x. ap (λ (k : ℕ). cond {A = ℕ} (eqb m n) (f k) 0) x)
-    (λ x. ap (λ (b : Bool). cond {A = ℕ} b (f m) 0) (ne_eqb m n x) ∙ sym (ap (λ (b : Bool). cond {A = ℕ} b (f n) 0) (ne_eqb m n x)))
-    (cases_eq m n)
-
--- one number of the sheet takes other shares
-amended_balance : (b : Bool) (entered added filled cut cancelled left shares was is takes : ℕ) → entered + added ≡ filled + cut + cancelled + was → left ≡ takes + is → left ≡ cond {A = ℕ} b shares was
-    → entered + (added + cond {A = ℕ} b (shares - was) 0) ≡ filled + takes + (cut + cond {A = ℕ} b (was - shares) 0) + cancelled + is
-amended_balance true entered added filled cut cancelled left shares was is takes e f g = omega (arith, e, f, g)
-amended_balance false entered added filled cut cancelled left shares was is takes e f g = omega (arith, e, f, g)
-
-cancelled_balance : (b : Bool) (entered added filled cut cancelled left was is takes : ℕ) → entered + added ≡ filled + cut + cancelled + was → left ≡ takes + is → left ≡ cond {A = ℕ} b 0 was
-    → entered + added ≡ filled + takes + cut + (cancelled + cond {A = ℕ} b was 0) + is
-cancelled_balance true entered added filled cut cancelled left was is takes e f g = omega (arith, e, f, g)
-cancelled_balance false entered added filled cut cancelled left was is takes e f g = omega (arith, e, f, g)
+stamp_left b next f q = grind (arith, common_steps)
 
 module _ (u : Rules) (lawful : Lawful u.before) (places entries : ℕ) (s : Sheet) (t : Tally) (rows : List Row)
     (sound : Sound places s.next s.orders rows) (balanced : Balanced t rows) (low : 1 ≤ s.next) where
@@ -88,7 +68,7 @@ module _ (u : Rules) (lawful : Lawful u.before) (places entries : ℕ) (s : Shee
   module _ (taken : Taken u) (n shares limit i : ℕ) (o : Order) (q : s.orders n ≡ Some o) (l : i < length rows) (e : get_or rows i cleared ≡ row_of o) (en : o.number ≡ n)
       (verdict : u.verdict (amended_entry (row_of o) shares limit) s.lot ≡ Ok tt) (stamp : loses_time (row_of o) shares limit ≡ true → s.next ≤ last_stamp) where
     abbrev c : Call
-    c = Amend n shares limit
+    c = Amend (record { number = n; shares = shares; limit = limit })
 
     judged : is_some (order_of (entry_row (amended_entry (row_of o) shares limit) 1)) ≡ true
     judged = taken (amended_entry (row_of o) shares limit) s.lot verdict 1 (omega arith) (omega arith)
@@ -138,47 +118,22 @@ module _ (u : Rules) (lawful : Lawful u.before) (places entries : ℕ) (s : Shee
         (ap order_of (get_or-set_same rows i v cleared l) ∙ new.1)
         ∙ ap (λ (m : ℕ). left_of ((accepted c w.fills s).orders m)) (sym (ap (λ (r : Row). r.number) new.2) ∙ en)
 
-    added_number : (m : ℕ) → cond {A = ℕ} (eqb m n) (shares - left_of (s.orders m)) 0 ≡ cond {A = ℕ} (eqb m n) (shares - left_of (s.orders n)) 0
-    added_number m = at_key (λ (k : ℕ). shares - left_of (s.orders k)) m n
-
-    cut_number : (m : ℕ) → cond {A = ℕ} (eqb m n) (left_of (s.orders m) - shares) 0 ≡ cond {A = ℕ} (eqb m n) (o.left - shares) 0
-    cut_number m = at_key (λ (k : ℕ). left_of (s.orders k) - shares) m n ∙ ap (λ (k : ℕ). cond {A = ℕ} (eqb m n) (k - shares) 0) left_was
-
     abbrev reply : Receipt
     reply = record { number = n; filled = shares - left_at (Some i) true w.rows; resting = left_at (Some i) true w.rows; cancelled = o.left - shares; fills = length w.fills }
 
     pub amend_kept : Kept u places s t c reply w.fills w.rows (stamped_if (loses_time (row_of o) shares limit) st)
-    amend_kept = record {
-      traded = fin.traded;
-      receipted = record {
-        order = (refl, (let a = fin.swept_left n in omega (arith, a, here, told_is)), told_is);
-        cancelled = ap (λ (x : ℕ). x - shares) (sym left_was);
-        count = refl;
-      };
-      fair = fin.fair;
-      sound = fin.sound;
-      settled = fin.settled;
-      balanced = λ m.
-          let b = amended_balance (eqb m n) (t.entered m) (t.added m) (t.filled m) (t.cut m) (t.cancelled m) (left_of ((written c s).orders m)) shares (left_of (s.orders m)) (left_of ((accepted c w.fills s).orders m)) (takes_all w.fills m) (was m) (fin.swept_left m) (left_written m) in
-          omega (arith, b, added_number m, cut_number m, fin.held m);
-      state = ap (λ (b : Bool). stamped_if b st) (sym loses);
-      low = one_or_more (restamps (s.orders n) shares limit) s.next low;
-    }
+    amend_kept = grind (arith, nat_tests, kept_of, fin, fin.swept_left, here, told_is, left_was, was, left_written, fin.held, loses, one_or_more)
 
-  pub amend_outcome : Taken u → (n shares limit : ℕ) → Clear (amend_matter u st n shares limit entries rows) → Outcome u places s t (Amend n shares limit) (amended u st n shares limit rows)
+  pub amend_outcome : Taken u → (n shares limit : ℕ) → Clear (amend_matter u st n shares limit entries rows) → Outcome u places s t (Amend (record { number = n; shares = shares; limit = limit })) (amended u st n shares limit rows)
   amend_outcome taken n shares limit cl =
       let k = look n cl.not_resting in
       let i = k.0 in
       let o = k.3 in
       let r : row_at (place_of n rows) rows ≡ row_of o = ap (λ (p : Option ℕ). row_at p rows) k.1 ∙ k.5 in
       let v : Row = amended_row (row_of o) shares limit s.next in
-      let p : placed (place_of n rows) true v rows ≡ set rows i v = ap (λ (x : Option ℕ). placed x true v rows) k.1 ∙ placed_at i v rows k.2 in
       let b : Bool = loses_time (row_of o) shares limit in
-      let same : rewritten (stamped_if b st) n shares (o.left - shares) (Some i) true (swept u (stamped_if b st) (set rows i v)) ≡ amended u st n shares limit rows =
-      sym (ap (λ (x : Row). amended_in u st n shares limit (place_of n rows) x rows) r
-      ∙ ap (λ (x : List Row). rewritten (stamped_if b st) n shares (o.left - shares) (place_of n rows) true (swept u (stamped_if b st) x)) p
-      ∙ ap (λ (x : Option ℕ). rewritten (stamped_if b st) n shares (o.left - shares) x true (swept u (stamped_if b st) (set rows i v))) k.1) in
-      subst (λ (a : After). Outcome u places s t (Amend n shares limit) a) same (
+      let same : rewritten (stamped_if b st) n shares (o.left - shares) (Some i) true (swept u (stamped_if b st) (set rows i v)) ≡ amended u st n shares limit rows = rw (k.1, k.5, placed_at i v rows k.2) refl in
+      subst (λ (a : After). Outcome u places s t (Amend (record { number = n; shares = shares; limit = limit })) a) same (
         _,
         refl,
         amend_kept taken n shares limit i o k.4 k.2 k.5 k.6
@@ -203,41 +158,18 @@ module _ (u : Rules) (lawful : Lawful u.before) (places entries : ℕ) (s : Shee
     cancel_here : left_of ((written (Cancel n) s).orders n) ≡ 0
     cancel_here = ap left_of (put_same n None s.orders n refl)
 
-    gone_number : (m : ℕ) → cond {A = ℕ} (eqb m n) (left_of (s.orders m)) 0 ≡ cond {A = ℕ} (eqb m n) o.left 0
-    gone_number m = at_key (λ (k : ℕ). left_of (s.orders k)) m n ∙ ap (λ (k : ℕ). cond {A = ℕ} (eqb m n) k 0) (ap left_of q)
-
     abbrev cancel_reply : Receipt
     cancel_reply = record { number = n; filled = 0 - left_at (Some i) false cw.rows; resting = left_at (Some i) false cw.rows; cancelled = o.left; fills = length cw.fills }
 
     pub cancel_kept : Kept u places s t (Cancel n) cancel_reply cw.fills cw.rows st
-    cancel_kept = record {
-      traded = cancel_fin.traded;
-      receipted = record {
-        order = (refl, (let a = cancel_fin.swept_left n in omega (arith, a, cancel_here)), (let a = cancel_fin.swept_left n in omega (arith, a, cancel_here)));
-        cancelled = sym (ap left_of q);
-        count = refl;
-      };
-      fair = cancel_fin.fair;
-      sound = cancel_fin.sound;
-      settled = cancel_fin.settled;
-      balanced = λ m.
-          let b = cancelled_balance (eqb m n) (t.entered m) (t.added m) (t.filled m) (t.cut m) (t.cancelled m) (left_of ((written (Cancel n) s).orders m)) (left_of (s.orders m)) (left_of ((accepted (Cancel n) cw.fills s).orders m)) (takes_all cw.fills m) (was m) (cancel_fin.swept_left m) (cancel_left m) in
-          omega (arith, b, gone_number m, cancel_fin.held m);
-      state = refl;
-      low = low;
-    }
+    cancel_kept = grind (arith, nat_tests, kept_of, cancel_fin, cancel_fin.swept_left, cancel_here, was, cancel_left, cancel_fin.held)
 
   pub cancel_outcome : (n : ℕ) → Clear (cancel_matter st n entries rows) → Outcome u places s t (Cancel n) (cancelled u st n rows)
   cancel_outcome n cl =
       let k = look n cl.not_resting in
       let i = k.0 in
       let o = k.3 in
-      let r : row_at (place_of n rows) rows ≡ row_of o = ap (λ (p : Option ℕ). row_at p rows) k.1 ∙ k.5 in
-      let p : placed (place_of n rows) true cleared rows ≡ set rows i cleared = ap (λ (x : Option ℕ). placed x true cleared rows) k.1 ∙ placed_at i cleared rows k.2 in
-      let same : rewritten st n 0 o.left (Some i) false (swept u st (set rows i cleared)) ≡ cancelled u st n rows =
-      sym (ap (λ (x : Row). rewritten st n 0 x.left (place_of n rows) false (swept u st (placed (place_of n rows) true cleared rows))) r
-      ∙ ap (λ (x : List Row). rewritten st n 0 o.left (place_of n rows) false (swept u st x)) p
-      ∙ ap (λ (x : Option ℕ). rewritten st n 0 o.left x false (swept u st (set rows i cleared))) k.1) in
+      let same : rewritten st n 0 o.left (Some i) false (swept u st (set rows i cleared)) ≡ cancelled u st n rows = rw (k.1, k.5, placed_at i cleared rows k.2) refl in
       subst (λ (a : After). Outcome u places s t (Cancel n) a) same (_, refl, cancel_kept n i o k.4 k.2 k.5 k.6)
 
   -- a call without an order that writes none
@@ -247,12 +179,7 @@ module _ (u : Rules) (lawful : Lawful u.before) (places entries : ℕ) (s : Shee
     same = ap (λ (b : Bool). cond {A = Orders} b (put s.next None (written c s).orders) (written c s).orders) stays
 
     plain_ready : Ready u places s c [] rows
-    plain_ready = record {
-      goes = goes;
-      fair = tt;
-      sound = subst (λ (n : ℕ). Sound places n (leaves c s.next (written c s).orders) rows) (sym next) (subst (λ (x : Orders). Sound places s.next x rows) (sym (same ∙ orders)) sound);
-      back = λ fs f. subst (λ (x : Orders). AllFair (market_on u (written c s)) x fs) same f;
-    }
+    plain_ready = grind arith
 
     abbrev pw : Swept
     pw = swept u (state_on places (written c s)) rows
@@ -260,34 +187,11 @@ module _ (u : Rules) (lawful : Lawful u.before) (places entries : ℕ) (s : Shee
     plain_fin : Finished u places s c [] rows pw
     plain_fin = finish u lawful places s c [] rows plain_ready
 
-    abbrev plain_reply : Receipt
-    plain_reply = record { number = 0; filled = 0; resting = 0; cancelled = 0; fills = length pw.fills }
-
     plain_balanced : Balanced (with_fills pw.fills t) pw.rows
-    plain_balanced n =
-        let a = plain_fin.swept_left n in
-        let b : left_of (leaves c s.next (written c s).orders n) ≡ left_of (s.orders n) = ap (λ (x : Orders). left_of (x n)) (same ∙ orders) in
-        omega (arith, was n, a, b, plain_fin.held n)
+    plain_balanced n = grind (arith, nat_tests, plain_fin.swept_left, same, was, plain_fin.held)
 
     pub plain_kept : Outcome u places s t c (settled (state_on places (written c s)) pw)
-    plain_kept = (
-      _,
-      refl,
-      record {
-        traded = plain_fin.traded;
-        receipted = record {
-          order = subst (λ (k : Option ℕ). OrderTold k (accepted c pw.fills s).orders plain_reply pw.fills) (sym none) (refl, refl, refl);
-          cancelled = sym (cancels pw.fills);
-          count = refl;
-        };
-        fair = plain_fin.fair;
-        sound = plain_fin.sound;
-        settled = plain_fin.settled;
-        balanced = subst (λ (x : Tally). Balanced (with_fills pw.fills x) pw.rows) (sym (counts plain_reply)) plain_balanced;
-        state = refl;
-        low = omega (arith, next, low);
-      },
-    )
+    plain_kept = grind (arith, nat_tests, kept_of, plain_fin, plain_balanced)
 
   pub quote_outcome : (bid offer : ℕ) → Outcome u places s t (Quote bid offer) (quoted u st bid offer rows)
   quote_outcome bid offer = plain_kept (Quote bid offer) refl refl refl refl refl (λ fs. refl) (λ r. refl)
@@ -297,19 +201,13 @@ module _ (u : Rules) (lawful : Lawful u.before) (places entries : ℕ) (s : Shee
 
   -- the phase after an event that fits
   halted_after : (p : Phase) → not (fits p event.Halt) ≡ false → phase_after p event.Halt ≡ phase.Halted
-  halted_after phase.Open e = refl
-  halted_after phase.Halted e = refl
-  halted_after phase.Closed e = absurd (both_ways true e refl)
+  halted_after p e = grind (arith, common_steps)
 
   opened_after : (p : Phase) → not (fits p event.Resume) ≡ false → phase_after p event.Resume ≡ phase.Open
-  opened_after phase.Open e = refl
-  opened_after phase.Halted e = refl
-  opened_after phase.Closed e = absurd (both_ways true e refl)
+  opened_after p e = grind (arith, common_steps)
 
   closed_after : (p : Phase) → phase_after p event.Close ≡ phase.Closed
-  closed_after phase.Open = refl
-  closed_after phase.Halted = refl
-  closed_after phase.Closed = refl
+  closed_after p = grind (arith, common_steps)
 
   turned_as : (c : Call) (e : Event) (p : Phase) → phase_after s.phase e ≡ p → Outcome u places s t c (settled (with_phase st p) (swept u (with_phase st p) rows)) → Outcome u places s t c (turned u st e rows)
   turned_as c e p q o = subst (λ (x : Phase). Outcome u places s t c (settled (with_phase st x) (swept u (with_phase st x) rows))) (sym q) o

@@ -1,21 +1,21 @@
 -- An entered order's own fills are those that the law asks for.
-use Rattle.std.proofs.Common.{◌≡◌, ℕ, zero, suc, ◌<◌, ◌≤◌, Bool, true, false, ◌||◌, ◌⊎◌, List, [], length, Some, None, Option, sym, refl, ap, ◌∙◌, subst, inl, inr, ⊎_elim, arith}
-use Rattle.std.proofs.lemmas.Bool.{both_ways, not-true, not_from_false, and_parts, and_from, ltb-true, lt-ltb}
+use Rattle.std.proofs.Common.{◌≡◌, ℕ, zero, suc, ◌<◌, ◌≤◌, Bool, true, ◌||◌, ◌⊎◌, List, [], length, Some, None, Option, sym, refl, ap, ◌∙◌, subst, inl, inr, ⊎_elim, arith}
+use Rattle.std.proofs.lemmas.Grind.{common_steps}
+use Rattle.std.proofs.lemmas.Bool.{cases_Bool, cond-false, both_ways, not-true, not_from_false, and_parts, and_from, ltb-true, lt-ltb}
 use Rattle.orders.specs.Rows.{order_of, row_of, cleared, in_force}
 use Rattle.orders.specs.declared.kind.Kind.{Kind}
 use Rattle.orders.specs.declared.kind.Kind.TheVariants as kind
 use Rattle.orders.specs.declared.order.Order.{Order}
 use Rattle.orders.specs.declared.row.Row.{Row}
-use Rattle.orders.specs.declared.side.Side.{Side}
 use Rattle.matching.specs.declared.meeting.Found.{Found}
 use Rattle.matching.specs.declared.meeting.Meeting.{Meeting}
 use Rattle.matching.specs.Market.{Market}
 use Rattle.matching.specs.Firsts.{first}
-use Rattle.matching.specs.Sums.{is_touch, counted, sum_of, asks_in_sum, stops}
+use Rattle.matching.specs.Sums.{counted, sum_of, asks_in_sum, stops}
 use Rattle.matching.specs.Trades.{fill_of, left_active}
 use Rattle.matching.specs.Runs as runs
 use Rattle.matching.specs.Runs.{Done, met_by, meeting_by, meeting, passed, turn, run}
-use Rattle.matching.proofs.Options.{none_some, some_same, cond_came}
+use Rattle.std.proofs.lemmas.Option.{none-some, same_Some}
 use Rattle.matching.proofs.Chosen.{meeting_is}
 use Rattle.matching.proofs.Foremost.{Lawful}
 use Rattle.matching.proofs.Occupied.{one_most, occupied_most}
@@ -30,18 +30,10 @@ use Rattle.day.proofs.Totals.{total_rows, total_put}
 use Rattle.day.proofs.Changing.{fill_tells, none_deals, meeting_fair, aside_is, aside_sees, aside_took}
 
 asks_sum : (k : Kind) → asks_in_sum k ≡ true → k ≡ kind.MinimumSum
-asks_sum kind.Limit e = absurd (both_ways false refl e)
-asks_sum kind.LimitAtOnce e = absurd (both_ways false refl e)
-asks_sum kind.Market e = absurd (both_ways false refl e)
-asks_sum kind.MiddlePeg e = absurd (both_ways false refl e)
-asks_sum kind.MinimumImprovement e = absurd (both_ways false refl e)
-asks_sum kind.MinimumEach e = absurd (both_ways false refl e)
-asks_sum kind.MinimumSum e = refl
-asks_sum kind.SeekImprovement e = absurd (both_ways false refl e)
+asks_sum k e = grind (arith, common_steps)
 
 fill_touches : (m : Market) (t : Meeting) → touches m (fill_of t) ≡ runs.touches m t
-fill_touches m t =
-    ap (λ (d : Side). is_touch m.quote d (fill_of t).price) (fill_tells t).side ∙ ap (is_touch m.quote t.active.side) (fill_tells t).price
+fill_touches m t = grind arith
 
 module _ (m : Market) (lawful : Lawful m.before) (places next k : ℕ) where
   module _ (touched : Bool) (r : Row) (s : Orders) (rows : List Row) (h : Aside places next k r s rows) where
@@ -75,7 +67,7 @@ module _ (m : Market) (lawful : Lawful m.before) (places next k : ℕ) where
 
       would_stop : Stops m k touched s (fill_of t) → stops m touched t.active rows t.found.candidate.price ≡ true
       would_stop c =
-          let same : c.active ≡ t.active = some_same c.active t.active (sym c.active_at ∙ (aside_is places next k r s rows h t.active at).1) in
+          let same : c.active ≡ t.active = same_Some c.active t.active (sym c.active_at ∙ (aside_is places next k r s rows h t.active at).1) in
           let asks : asks_in_sum t.active.kind ≡ true = ap asks_in_sum (ap (λ (o : Order). o.kind) (sym same) ∙ c.in_sum) in
           let few : total (counted m t.active) s k < in_force t.active = subst (λ (o : Order). total (counted m o) s k < in_force o) same c.few in
           and_from _ _
@@ -84,12 +76,11 @@ module _ (m : Market) (lawful : Lawful m.before) (places next k : ℕ) where
 
     -- the end of the fills
     spent_none : order_of r ≡ None → ((r ≡ cleared) × (s k ≡ None)) ⊎ ((a : Order) × (r ≡ row_of a) × (s k ≡ Some a) × (a.number ≡ k)) → Spent m k s
-    spent_none e (inl w) = λ a q. absurd (none_some a (sym w.1 ∙ q))
-    spent_none e (inr w) = absurd (none_some w.0 (sym e ∙ row_order r w.0 w.1))
+    spent_none e h = grind (arith, row_order)
 
     spent_first : (a : Order) → order_of r ≡ Some a → first m a rows ≡ None → Spent m k s
     spent_first a at e b q n o qo old =
-        let same : a ≡ b = some_same a b (sym (aside_is places next k r s rows h a at).1 ∙ q) in
+        let same : a ≡ b = same_Some a b (sym (aside_is places next k r s rows h a at).1 ∙ q) in
         none_deals m b s rows (aside_sees places next k r s rows h b (at ∙ ap Some same)) (ap (λ (x : Order). first m x rows) (sym same) ∙ e) n o qo old
 
     ended_met : (a : Order) → order_of r ≡ Some a → (f : Option Found) → first m a rows ≡ f → met_by m touched a rows f ≡ None → Own m k touched s []
@@ -97,9 +88,9 @@ module _ (m : Market) (lawful : Lawful m.before) (places next k : ℕ) where
     ended_met a at (Some f) e q =
         let t : Meeting = record { active = a; found = f } in
         ⊎_elim
-        (λ w. inr (fill_of t, fair t at e, active_is t at e, stopped t at e w.0))
-        (λ w. absurd (none_some t (sym w.1)))
-        (cond_came (stops m touched a rows f.candidate.price) None (Some t) None q)
+        (λ w. inr (fill_of t, fair t at e, active_is t at e, stopped t at e w))
+        (λ w. absurd (none-some t (sym q ∙ cond-false (stops m touched a rows f.candidate.price) None (Some t) w)))
+        (cases_Bool (stops m touched a rows f.candidate.price))
 
     ended_by : (a : Option Order) → order_of r ≡ a → meeting_by m touched a rows ≡ None → Own m k touched s []
     ended_by None at q = inl (spent_none at h.active)

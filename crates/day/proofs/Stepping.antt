@@ -1,6 +1,7 @@
 -- One step of a day keeps the law.
-use Rattle.std.proofs.Common.{◌≡◌, ℕ, ◌≤◌, min, List, ◌++◌, length, take, drop, Ok, Err, Result, sym, refl, ap, ◌∙◌, subst, arith}
-use Rattle.std.proofs.lemmas.List.{length-take, take_all, drop_all, take-append-drop, append-nil}
+use Rattle.std.proofs.Common.{◌≡◌, ℕ, ◌≤◌, min, List, ◌++◌, length, take, drop, Ok, Err, Result, sym, refl, ap, subst, arith}
+use Rattle.std.proofs.lemmas.Grind.{common_steps}
+use Rattle.std.proofs.lemmas.List.{length-take, take_all}
 use Rattle.orders.specs.declared.call.Call.{Call}
 use Rattle.orders.specs.declared.call.Call.TheVariants.{Enter, Amend, Cancel, Quote, Withdraw, Halt, Resume, Close}
 use Rattle.orders.specs.declared.call.Fill.{Fill}
@@ -16,7 +17,7 @@ use Rattle.book.proofs.Admitted.{clear}
 use Rattle.day.specs.declared.item.Item.{Item}
 use Rattle.day.specs.Steps.{Step}
 use Rattle.day.specs.Plays.{handed_in, answer_to}
-use Rattle.day.specs.Sheets.{Sheet, accepted, after}
+use Rattle.day.specs.Sheets.{Sheet, after}
 use Rattle.day.specs.Causes.{Lists, causes, Refused, Passed}
 use Rattle.day.specs.Balances.{Tally, tallied, Balanced}
 use Rattle.day.specs.Law.{lists_of, Settled, StepLaw}
@@ -41,7 +42,7 @@ module _ (u : Rules) (lawful : Lawful u.before) (taken : Taken u) (places entrie
     (sound : Sound places s.next s.orders rows) (balanced : Balanced t rows) (low : 1 ≤ s.next) where
   pub call_kept : (c : Call) → cause_of u (state_on places s) c entries rows ≡ Ok tt → Outcome u places s t c (done_of u (state_on places s) c rows)
   call_kept (Enter e) ok = (_, refl, enter_kept u lawful taken places entries s t rows sound balanced low e (clear (entry_matter u (state_on places s) e entries rows) ok))
-  call_kept (Amend n shares limit) ok = amend_outcome u lawful places entries s t rows sound balanced low taken n shares limit (clear (amend_matter u (state_on places s) n shares limit entries rows) ok)
+  call_kept (Amend a) ok = amend_outcome u lawful places entries s t rows sound balanced low taken a.number a.shares a.limit (clear (amend_matter u (state_on places s) a.number a.shares a.limit entries rows) ok)
   call_kept (Cancel n) ok = cancel_outcome u lawful places entries s t rows sound balanced low n (clear (cancel_matter (state_on places s) n entries rows) ok)
   call_kept (Quote bid offer) ok = quote_outcome u lawful places entries s t rows sound balanced low bid offer
   call_kept Withdraw ok = withdraw_outcome u lawful places entries s t rows sound balanced low
@@ -70,7 +71,7 @@ module _ (u : Rules) (lawful : Lawful u.before) (taken : Taken u) (places entrie
   handed_long = let e = length-take n rows in let f = b.sound.holds.size in omega (arith, e, f)
 
   handed_all : length h ≡ places → h ≡ rows
-  handed_all e = take_all n rows (let f = b.sound.holds.size in let g = handed_long in omega (arith, e, f, g))
+  handed_all e = take_all n rows (omega (arith, b.sound.holds.size, handed_long))
 
   known : length h ≡ places → Sound places s.next s.orders h
   known e = subst (λ (x : List Row). Sound places s.next s.orders x) (sym (handed_all e)) b.sound
@@ -80,36 +81,12 @@ module _ (u : Rules) (lawful : Lawful u.before) (taken : Taken u) (places entrie
 
   -- a call that is sent back
   refused_step : (x : Refusal) → Refused (causes u places s (lists_of places entries i) i.call) x → Stepped u places entries s t i rows (refused x st h)
-  refused_step x why =
-      let same : rows ≡ h ++ drop n rows = sym (take-append-drop n rows) in
-      let between : Between u places s t (h ++ drop n rows) = subst (λ (y : List Row). Between u places s t y) same b in
-      (record { item = refl; answered = (why, refl); fair = tt; kept = between.sound.holds; settled = b.settled; balanced = between.balanced }, between, refl)
+  refused_step x why = grind (arith, common_steps)
 
   -- one that is accepted
   module _ (passed : Passed (causes u places s (lists_of places entries i) i.call)) (r : Receipt) (fs : List Fill) (rows' : List Row) (st' : State) (kept : Kept u places s t i.call r fs rows' st') (all : length h ≡ places) where
-    rows_same : rows' ≡ rows' ++ drop n rows
-    rows_same =
-        let long : length rows ≤ n = let f = b.sound.holds.size in let g = handed_long in omega (arith, all, f, g) in
-        sym (ap (λ (y : List Row). rows' ++ y) (drop_all n rows long) ∙ append-nil rows')
-
-    between_after : Between u places (accepted i.call fs s) (tallied i.call (Ok r) fs s t) (rows' ++ drop n rows)
-    between_after =
-        subst (λ (y : List Row). Between u places (accepted i.call fs s) (tallied i.call (Ok r) fs s t) y) rows_same
-        (record { sound = kept.sound; settled = kept.settled; balanced = kept.balanced; low = kept.low })
-
     accepted_step : Stepped u places entries s t i rows (record { reply = Ok r; state = st'; rows = rows'; fills = fs })
-    accepted_step = (
-      record {
-        item = refl;
-        answered = (passed, kept.traded, kept.receipted);
-        fair = kept.fair;
-        kept = between_after.sound.holds;
-        settled = kept.settled;
-        balanced = between_after.balanced;
-      },
-      between_after,
-      kept.state,
-    )
+    accepted_step = grind (arith, common_steps)
 
   done_step : Passed (causes u places s (record { places = length h; entries = min i.fills entries }) i.call) → cause_of u st i.call (min i.fills entries) h ≡ Ok tt → Stepped u places entries s t i rows (done_of u st i.call h)
   done_step p ok =

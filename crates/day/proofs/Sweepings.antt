@@ -1,6 +1,7 @@
 -- The fills of a sweep are those that the law asks for.
-use Rattle.std.proofs.Common.{◌≡◌, ℕ, zero, suc, ◌+◌, ◌<◌, ◌≤◌, Bool, true, false, cond, ltb, ◌⊎◌, List, [], ◌∷◌, length, get_or, Some, None, Option, sym, refl, ap, ◌∙◌, subst, inl, inr, ⊎_elim, le_of_suc-le-suc, not-suc-le-zero, add-zero, add-suc, suc-add, arith}
-use Rattle.std.proofs.lemmas.Bool.{ltb-true, ltb-false}
+use Rattle.std.proofs.Common.{◌≡◌, ℕ, zero, suc, ◌+◌, ◌<◌, ◌≤◌, ◌⊎◌, List, [], ◌∷◌, length, get_or, Some, None, Option, sym, refl, ap, ◌∙◌, inl, inr, not-suc-le-zero, arith}
+use Rattle.std.proofs.lemmas.Bool.Decides.{nat_tests}
+use Rattle.std.proofs.lemmas.Grind.{common_steps}
 use Rattle.orders.specs.Rows.{order_of, cleared}
 use Rattle.orders.specs.declared.order.Order.{Order}
 use Rattle.orders.specs.declared.row.Row.{Row}
@@ -10,7 +11,7 @@ use Rattle.matching.specs.Market.{Market}
 use Rattle.matching.specs.Firsts.{first}
 use Rattle.matching.specs.Trades.{fill_of}
 use Rattle.matching.specs.Sweeps.{Swept, pair_of, pair_by, pair_at, older, oldest_from, oldest, traded, round, sweep, occupied}
-use Rattle.matching.proofs.Options.{none_some, some_same, cond_came}
+use Rattle.std.proofs.lemmas.Option.{none-some, same_Some}
 use Rattle.matching.proofs.Foremost.{Lawful}
 use Rattle.matching.proofs.Pairing.{pair_is}
 use Rattle.matching.proofs.Occupied.{occupied_most, traded_fewer}
@@ -21,69 +22,41 @@ use Rattle.day.specs.Law.{Holds}
 use Rattle.day.specs.Trades.{Oldest, InTurn}
 use Rattle.day.proofs.Keeping.{Sound}
 use Rattle.day.proofs.Putting.{row_order}
-use Rattle.day.proofs.Changing.{fill_tells, sees_all, none_deals, meeting_fair, sound_took}
+use Rattle.day.proofs.Changing.{each_more, fill_tells, sees_all, none_deals, meeting_fair, sound_took}
 
 abbrev stamp_of : Pair → ℕ
 stamp_of p = p.meeting.active.stamp
 
--- one is held, and its active order is no younger than any that was seen
-abbrev Led : Option Pair → (Pair → Type 0) → Type 0
-Led b Seen = (y : Pair) → Seen y → (w : Pair) × (b ≡ Some w) × (stamp_of w ≤ stamp_of y)
-
-led_if : (Seen : Pair → Type 0) (b c : Pair) (t : Bool) → ltb (stamp_of c) (stamp_of b) ≡ t → Led (Some b) Seen → Led (cond t (Some c) (Some b)) (λ y. Seen y ⊎ (Some c ≡ Some y))
-led_if Seen b c true t h y (inl s) =
-    let w = h y s in
-    let q : stamp_of b ≡ stamp_of w.0 = ap (λ (z : Pair). stamp_of z) (some_same b w.0 w.1) in
-    (c, refl, omega (arith, w.2, ltb-true (stamp_of c) (stamp_of b) t))
-led_if Seen b c true t h y (inr e) = let q : stamp_of c ≡ stamp_of y = ap (λ (z : Pair). stamp_of z) (some_same c y e) in (c, refl, omega arith)
-led_if Seen b c false t h y (inl s) = h y s
-led_if Seen b c false t h y (inr e) = let q : stamp_of c ≡ stamp_of y = ap (λ (z : Pair). stamp_of z) (some_same c y e) in (b, refl, omega (arith, ltb-false (stamp_of c) (stamp_of b) t))
-
-led_more : (Seen : Pair → Type 0) (b c : Option Pair) → Led b Seen → Led (older b c) (λ y. Seen y ⊎ (c ≡ Some y))
-led_more Seen None c h y (inl s) = let w = h y s in absurd (none_some w.0 w.1)
-led_more Seen None c h y (inr e) = (y, e, omega arith)
-led_more Seen (Some b) None h y (inl s) = h y s
-led_more Seen (Some b) None h y (inr e) = absurd (none_some y e)
-led_more Seen (Some b) (Some c) h y s = led_if Seen b c (ltb (stamp_of c) (stamp_of b)) refl h y s
+-- of two pairs the older is as old as either
+older_least : (b c : Option Pair) (n : ℕ) → ((z : Pair) → older b c ≡ Some z → n ≤ stamp_of z) → (y : Pair) → (b ≡ Some y) ⊎ (c ≡ Some y) → n ≤ stamp_of y
+older_least b c n h y e = grind (arith, nat_tests, none-some)
 
 older_none : (b c : Option Pair) → older b c ≡ None → (b ≡ None) × (c ≡ None)
-older_none None c e = (refl, e)
-older_none (Some b) None e = absurd (none_some b (sym e))
-older_none (Some b) (Some c) e = absurd (⊎_elim (λ h. none_some c (sym h.1)) (λ h. none_some b (sym h.1)) (cond_came (ltb (stamp_of c) (stamp_of b)) (Some c) (Some b) None e))
+older_none b c e = grind (arith, common_steps)
 
 module _ (m : Market) where
-  led_all : (all rows : List Row) (i : ℕ) (b : Option Pair) (Seen : Pair → Type 0) → Led b Seen → (p : Pair) → oldest_from m all i b rows ≡ Some p
-      → ((y : Pair) → Seen y → stamp_of p ≤ stamp_of y) × ((k : ℕ) (y : Pair) → k < length rows → pair_at m all (i + k) (get_or rows k cleared) ≡ Some y → stamp_of p ≤ stamp_of y)
-  led_all all [] i b Seen h p e =
-      ((λ y s. let w = h y s in let q : stamp_of w.0 ≡ stamp_of p = ap (λ (z : Pair). stamp_of z) (some_same w.0 p (sym w.1 ∙ e)) in omega (arith, w.2)), (λ k y l q. absurd (not-suc-le-zero l)))
-  led_all all (r ∷ rs) i b Seen h p e =
-      let ih = led_all all rs (suc i) (older b (pair_at m all i r)) (λ y. Seen y ⊎ (pair_at m all i r ≡ Some y)) (led_more Seen b (pair_at m all i r) h) p e in
-      ((λ y s. ih.0 y (inl s)), there ih.0 ih.1)
-    where
-      there : ((y : Pair) → Seen y ⊎ (pair_at m all i r ≡ Some y) → stamp_of p ≤ stamp_of y) → ((k : ℕ) (y : Pair) → k < length rs → pair_at m all (suc i + k) (get_or rs k cleared) ≡ Some y → stamp_of p ≤ stamp_of y)
-          → (k : ℕ) (y : Pair) → k < suc (length rs) → pair_at m all (i + k) (get_or (r ∷ rs) k cleared) ≡ Some y → stamp_of p ≤ stamp_of y
-      there u v zero y l q = u y (inr (subst (λ (n : ℕ). pair_at m all n r ≡ Some y) (add-zero i) q))
-      there u v (suc k) y l q = v k y (le_of_suc-le-suc l) (subst (λ (n : ℕ). pair_at m all n (get_or rs k cleared) ≡ Some y) (add-suc i k ∙ sym (suc-add i k)) q)
+  oldest_least : (all rows : List Row) (i : ℕ) (b : Option Pair) (p : Pair) → oldest_from m all i b rows ≡ Some p
+      → ((y : Pair) → b ≡ Some y → stamp_of p ≤ stamp_of y) × ((k : ℕ) → k < length rows → (y : Pair) → pair_at m all (i + k) (get_or rows k cleared) ≡ Some y → stamp_of p ≤ stamp_of y)
+  oldest_least all [] i b p e = ((λ y q. let w = same_Some p y (sym e ∙ q) in omega (arith, ap stamp_of w)), λ k l. absurd (not-suc-le-zero l))
+  oldest_least all (r ∷ rs) i b p e =
+      let ih = oldest_least all rs (suc i) (older b (pair_at m all i r)) p e in
+      let least = older_least b (pair_at m all i r) (stamp_of p) ih.0 in
+      ((λ y q. least y (inl q)), each_more (λ n x. (y : Pair) → pair_at m all n x ≡ Some y → stamp_of p ≤ stamp_of y) i r rs (λ y q. least y (inr q)) ih.1)
 
   -- every order that could be active is as young as the one that is
   oldest_first : (rows : List Row) (p : Pair) → oldest m rows ≡ Some p → (k : ℕ) (x : Order) (f : Found) → k < length rows → order_of (get_or rows k cleared) ≡ Some x → first m x rows ≡ Some f → stamp_of p ≤ x.stamp
   oldest_first rows p e k x f l q c =
-      (led_all rows rows 0 None (λ _. ⊥) (λ y s. absurd s) p e).1 k (record { place = 0 + k; meeting = record { active = x; found = f } }) l (ap (pair_by m rows (0 + k)) q ∙ ap (pair_of (0 + k) x) c)
+      (oldest_least rows rows 0 None p e).1 k l (record { place = 0 + k; meeting = record { active = x; found = f } }) (ap (pair_by m rows (0 + k)) q ∙ ap (pair_of (0 + k) x) c)
 
   oldest_none : (all rows : List Row) (i : ℕ) (b : Option Pair) → oldest_from m all i b rows ≡ None → (b ≡ None) × ((k : ℕ) → k < length rows → pair_at m all (i + k) (get_or rows k cleared) ≡ None)
   oldest_none all [] i b e = (e, λ k h. absurd (not-suc-le-zero h))
   oldest_none all (r ∷ rs) i b e =
       let ih = oldest_none all rs (suc i) (older b (pair_at m all i r)) e in
       let t = older_none b (pair_at m all i r) ih.0 in
-      (t.0, there t.1 ih.1)
-    where
-      there : pair_at m all i r ≡ None → ((k : ℕ) → k < length rs → pair_at m all (suc i + k) (get_or rs k cleared) ≡ None) → (k : ℕ) → k < suc (length rs) → pair_at m all (i + k) (get_or (r ∷ rs) k cleared) ≡ None
-      there u v zero h = subst (λ (n : ℕ). pair_at m all n r ≡ None) (sym (add-zero i)) u
-      there u v (suc k) h = subst (λ (n : ℕ). pair_at m all n (get_or rs k cleared) ≡ None) (suc-add i k ∙ sym (add-suc i k)) (v k (le_of_suc-le-suc h))
+      (t.0, each_more (λ n x. pair_at m all n x ≡ None) i r rs t.1 ih.1)
 
   pair_none : (i : ℕ) (a : Order) (o : Option Found) → pair_of i a o ≡ None → o ≡ None
-  pair_none i a None e = refl
-  pair_none i a (Some f) e = absurd (none_some (record { place = i; meeting = record { active = a; found = f } }) (sym e))
+  pair_none i a o e = grind (arith, common_steps)
 
   -- without a pair no order could be active
   none_first : (rows : List Row) → oldest m rows ≡ None → (k : ℕ) (a : Order) → k < length rows → order_of (get_or rows k cleared) ≡ Some a → first m a rows ≡ None
@@ -101,8 +74,7 @@ module _ (m : Market) where
     none_quiet e i j x y qx qy old = idle i j x y qx qy old (λ k l at. none_first rows e k x l at)
 
     no_older : (p : Pair) → oldest m rows ≡ Some p → (x : Order) → x.stamp < stamp_of p → (k : ℕ) → k < length rows → order_of (get_or rows k cleared) ≡ Some x → (f : Option Found) → first m x rows ≡ f → first m x rows ≡ None
-    no_older p e x old k l at None c = c
-    no_older p e x old k l at (Some f) c = absurd (let z : ⊥ = omega (arith, oldest_first rows p e k x f l at c) in z)
+    no_older p e x old k l at f c = grind (arith, oldest_first)
 
     pair_oldest : (p : Pair) → oldest m rows ≡ Some p → Oldest m s (fill_of p.meeting)
     pair_oldest p e =

@@ -1,12 +1,13 @@
 -- Sums over the orders of the sheet and over the places.
 use Rattle.std.proofs.Common.{◌≡◌, ℕ, zero, suc, ◌+◌, ◌<◌, cond, List, [], ◌∷◌, length, get_or, is_some, Some, None, Option, sym, refl, ap, ◌∙◌, ⊎_elim, not-suc-le-zero, arith}
+use Rattle.std.proofs.lemmas.Grind.{common_steps}
 use Rattle.std.proofs.lemmas.Bool.{cases_eq}
 use Rattle.orders.specs.Rows.{order_of, row_of, cleared}
 use Rattle.orders.specs.declared.order.Order.{Order}
 use Rattle.orders.specs.declared.row.Row.{Row}
 use Rattle.matching.specs.Sums.{weighed, sum_of}
 use Rattle.matching.specs.Sweeps.{occupied}
-use Rattle.matching.proofs.Options.{none_some, some_same}
+use Rattle.std.proofs.lemmas.Option.{none-some, same_Some}
 use Rattle.day.specs.Sheets.{Orders, put}
 use Rattle.day.specs.Causes.{total, standing}
 use Rattle.day.specs.Law.{Holds}
@@ -55,7 +56,7 @@ module _ (places : ℕ) (s : Orders) (r : Row) (rs : List Row) (h : Holds places
   free_tail f = record { size = refl; all = λ n o q. let w = h.all n o q in go n o w.0 w.1 w.2 w.3; only = tail_only; once = tail_once; free = tail_free }
     where
       go : (n : ℕ) (o : Order) (k : ℕ) → k < suc (length rs) → get_or (r ∷ rs) k cleared ≡ row_of o → o.number ≡ n → (k : ℕ) × (k < length rs) × (get_or rs k cleared ≡ row_of o) × (o.number ≡ n)
-      go n o zero l q e = absurd (none_some o (sym f ∙ row_order r o q))
+      go n o zero l q e = absurd (none-some o (sym f ∙ row_order r o q))
       go n o (suc k) l q e = (k, omega arith, q, e)
 
   held_tail : (o : Order) → order_of r ≡ Some o → Holds (length rs) (put o.number None s) rs
@@ -68,12 +69,11 @@ module _ (places : ℕ) (s : Orders) (r : Row) (rs : List Row) (h : Holds places
   }
     where
       go : (n : ℕ) (p : Order) → (n ≡ o.number → ⊥) → (k : ℕ) → k < suc (length rs) → get_or (r ∷ rs) k cleared ≡ row_of p → p.number ≡ n → (k : ℕ) × (k < length rs) × (get_or rs k cleared ≡ row_of p) × (p.number ≡ n)
-      go n p ne zero l q e = absurd (ne (sym e ∙ ap (λ (x : Order). x.number) (some_same p o (sym (row_order r p q) ∙ f))))
+      go n p ne zero l q e = absurd (ne (sym e ∙ ap (λ (x : Order). x.number) (same_Some p o (sym (row_order r p q) ∙ f))))
       go n p ne (suc k) l q e = (k, omega arith, q, e)
 
 none_held : (places : ℕ) (s : Orders) → Holds places s [] → (n : ℕ) (b : Option Order) → s n ≡ b → s n ≡ None
-none_held places s h n None e = e
-none_held places s h n (Some o) e = absurd (not-suc-le-zero (h.all n o e).1)
+none_held places s h n b e = grind (arith, common_steps)
 
 -- a sum over the sheet is that over the places
 pub total_rows : (g : Order → ℕ) (places n : ℕ) (s : Orders) (rows : List Row) → Holds places s rows → ((k : ℕ) (o : Order) → s k ≡ Some o → k < n) → total g s n ≡ sum_of g rows
@@ -90,8 +90,7 @@ total_rows g places n s (r ∷ rs) h y = by (order_of r) refl (λ t z w. total_r
         omega (arith, a, ih (put o.number None s) (held_tail places s r rs h o f) (λ k p q. y k p (gone_was o.number s k p q).1), total_gone g s o.number o n t (y o.number o t))
 
 one_weighed : (b : Option Order) → weighed (λ _. 1) b ≡ cond {A = ℕ} (is_some b) 1 0
-one_weighed None = refl
-one_weighed (Some o) = refl
+one_weighed b = grind (arith, common_steps)
 
 occupied_sum : (rows : List Row) → sum_of (λ _. 1) rows ≡ occupied rows
 occupied_sum [] = refl

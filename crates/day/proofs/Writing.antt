@@ -1,7 +1,6 @@
 -- A call is written on the sheet and into the places alike.
 use Rattle.std.proofs.Common.{◌≡◌, ℕ, ◌+◌, ◌<◌, ◌≤◌, Bool, true, false, cond, not, ◌&&◌, ◌||◌, eqb, leb, ◌⊎◌, List, length, get_or, set, is_some, Some, None, Option, sym, refl, ap, ◌∙◌, subst, inl, inr, ⊎_elim, arith}
-use mathlib.Core.Path.{fun_ext}
-use Rattle.std.proofs.lemmas.Bool.{and_parts, and_from, cases_eq, lt-ltb}
+use Rattle.std.proofs.lemmas.Grind.{common_steps}
 use Rattle.std.proofs.lemmas.Bool.Decides.{nat_tests}
 use Rattle.orders.specs.Grid.{on_grid}
 use Rattle.orders.specs.Kinds.{most_shares}
@@ -11,60 +10,35 @@ use Rattle.orders.specs.declared.entry.Entry.{Entry}
 use Rattle.orders.specs.declared.order.Order.{Order}
 use Rattle.orders.specs.declared.row.Row.{Row}
 use Rattle.orders.proofs.Decoding.{order_back, order_test}
-use Rattle.matching.proofs.Options.{none_some, some_same}
+use Rattle.std.proofs.lemmas.Option.{none-some, same_Some}
 use Rattle.matching.proofs.Rows.{row_is}
-use Rattle.places.specs.Amendments.{loses_time, amended_row, amended_entry}
+use Rattle.orders.specs.Amendments.{loses_time, amended_row, amended_entry}
 use Rattle.places.specs.Places.{placed}
 use Rattle.day.specs.Sheets.{Orders, put}
 use Rattle.day.specs.Law.{Holds}
 use Rattle.day.proofs.Keeping.{Stamped, Sound, Aside}
 use Rattle.day.proofs.Looking.{some_is}
-use Rattle.day.proofs.Putting.{put_same, put_other, gone_was, row_order, cleared_none, RowFor, Place, place_of, write_holds}
+use Rattle.day.proofs.Putting.{put_same, put_other, row_order, cleared_none, RowFor, Place, place_of, write_holds}
 
 -- nothing stands under a number yet
 pub unused : (next : ℕ) (s : Orders) → Stamped next s → (b : Option Order) → s next ≡ b → s next ≡ None
-unused next s h None q = q
-unused next s h (Some o) q = absurd (let z : ⊥ = omega (arith, (h.young next o q).1) in z)
+unused next s h b q = grind (arith, common_steps)
 
 -- to put nothing where nothing stands changes nothing
 pub put_none : (k : ℕ) (s : Orders) → s k ≡ None → put k None s ≡ s
-put_none k s e = fun_ext (λ n. ⊎_elim (λ x. put_same k None s n x ∙ sym e ∙ ap s (sym x)) (λ x. put_other k None s n x) (cases_eq n k))
+put_none k s e = grind arith
 
 pub put_back : (k : ℕ) (o : Option Order) (s : Orders) → s k ≡ None → put k None (put k o s) ≡ s
-put_back k o s e =
-    fun_ext (λ n. ⊎_elim (λ x. put_same k None (put k o s) n x ∙ sym e ∙ ap s (sym x)) (λ x. put_other k None (put k o s) n x ∙ put_other k o s n x) (cases_eq n k))
-
--- an order that stands was put there, or stood
-put_was : (k : ℕ) (b : Option Order) (s : Orders) (n : ℕ) (o : Order) → put k b s n ≡ Some o → ((n ≡ k) × (b ≡ Some o)) ⊎ ((n ≡ k → ⊥) × (s n ≡ Some o))
-put_was k b s n o e = ⊎_elim (λ x. inl (x, sym (put_same k b s n x) ∙ e)) (λ x. inr (x, sym (put_other k b s n x) ∙ e)) (cases_eq n k)
+put_back k o s e = grind arith
 
 -- the sheet with another order under one number: its stamp is that of the one that stood there, or a new one
 put_stamped : (next next' k : ℕ) (b : Option Order) (s : Orders) → Stamped next s → next ≤ next' → k < next'
     → ((p : Order) → b ≡ Some p → (p.stamp < next') × (((o : Order) × (s k ≡ Some o) × (p.stamp ≡ o.stamp)) ⊎ (next ≤ p.stamp)))
     → Stamped next' (put k b s)
-put_stamped next next' k b s h l lk f = record {
-  young = λ n o q. ⊎_elim (λ w. ((f o w.1).0, omega (arith, w.0))) (λ w. let y = h.young n o w.1 in (omega (arith, y.0), omega (arith, y.1))) (put_was k b s n o q);
-  apart = λ i j x y qi qj e. go i j x y (put_was k b s i x qi) (put_was k b s j y qj) e;
-}
-  where
-    mixed : (x : Order) (j : ℕ) (y : Order) → b ≡ Some x → s j ≡ Some y → (j ≡ k → ⊥) → x.stamp ≡ y.stamp → ⊥
-    mixed x j y q r ne e =
-        ⊎_elim
-        (λ w. ne (sym (h.apart k j w.0 y w.1 r (sym w.2 ∙ e))))
-        (λ w. let z : ⊥ = omega (arith, (h.young j y r).0, w, e) in z)
-        (f x q).1
-
-    go : (i j : ℕ) (x y : Order) → ((i ≡ k) × (b ≡ Some x)) ⊎ ((i ≡ k → ⊥) × (s i ≡ Some x)) → ((j ≡ k) × (b ≡ Some y)) ⊎ ((j ≡ k → ⊥) × (s j ≡ Some y)) → x.stamp ≡ y.stamp → i ≡ j
-    go i j x y (inl u) (inl v) e = u.0 ∙ sym v.0
-    go i j x y (inl u) (inr v) e = absurd (mixed x j y u.1 v.1 v.0 e)
-    go i j x y (inr u) (inl v) e = absurd (mixed y i x v.1 u.1 u.0 (sym e))
-    go i j x y (inr u) (inr v) e = h.apart i j x y u.1 v.1 e
+put_stamped next next' k b s h l lk f = grind arith
 
 pub gone_stamped : (next k : ℕ) (s : Orders) → Stamped next s → Stamped next (put k None s)
-gone_stamped next k s h = record {
-  young = λ n o q. h.young n o (gone_was k s n o q).1;
-  apart = λ i j x y qi qj e. h.apart i j x y (gone_was k s i x qi).1 (gone_was k s j y qj).1 e;
-}
+gone_stamped next k s h = grind arith
 
 -- the order that comes in is active
 module _ (places next : ℕ) (s : Orders) (rows : List Row) (sound : Sound places next s rows) (e : Entry) (a : Order) (q : order_of (entry_row e next) ≡ Some a) where
@@ -78,7 +52,7 @@ module _ (places next : ℕ) (s : Orders) (rows : List Row) (sound : Sound place
   t = put next (order_of (entry_row e next)) s
 
   new : (x : Order) → t next ≡ Some x → x.stamp ≡ next
-  new x r = ap (λ (y : Order). y.stamp) (some_same x a (sym r ∙ put_same next (order_of (entry_row e next)) s next refl ∙ q)) ∙ stamp_is
+  new x r = ap (λ (y : Order). y.stamp) (same_Some x a (sym r ∙ put_same next (order_of (entry_row e next)) s next refl ∙ q)) ∙ stamp_is
 
   old : (n : ℕ) (x : Order) → t n ≡ Some x → (n ≡ next → ⊥) → (x.stamp < next) × (n < next)
   old n x r ne = sound.stamped.young n x (sym (put_other next (order_of (entry_row e next)) s n ne) ∙ r)
@@ -87,7 +61,7 @@ module _ (places next : ℕ) (s : Orders) (rows : List Row) (sound : Sound place
   enter_aside = record {
     holds = subst (λ (x : Orders). Holds places x rows) (sym (put_back next (order_of (entry_row e next)) s (unused next s sound.stamped (s next) refl))) sound.holds;
     stamped = put_stamped next (next + 1) next (order_of (entry_row e next)) s sound.stamped (omega arith) (omega arith)
-        (λ p r. let z : p.stamp ≡ next = ap (λ (y : Order). y.stamp) (some_same p a (sym r ∙ q)) ∙ stamp_is in (omega (arith, z), inr (omega (arith, z))));
+        (λ p r. let z : p.stamp ≡ next = ap (λ (y : Order). y.stamp) (same_Some p a (sym r ∙ q)) ∙ stamp_is in (omega (arith, z), inr (omega (arith, z))));
     active = inr (a, sym row, put_same next (order_of (entry_row e next)) s next refl ∙ q, ap (λ (r : Row). r.number) row);
     last = λ n o r ne. (old n o r ne).1;
     youngest = λ x o n rx ro ne. let z = new x rx in let y = old n o ro ne in omega (arith, z, y.0);
@@ -95,11 +69,10 @@ module _ (places next : ℕ) (s : Orders) (rows : List Row) (sound : Sound place
 
 -- the active order leaves, or its remainder rests
 pub placed_not : (place : Option ℕ) (r : Row) (rows : List Row) → placed place false r rows ≡ rows
-placed_not None r rows = refl
-placed_not (Some i) r rows = refl
+placed_not place r rows = grind (arith, common_steps)
 
 pub placed_at : (i : ℕ) (r : Row) (rows : List Row) → i < length rows → placed (Some i) true r rows ≡ set rows i r
-placed_at i r rows h = ap (λ (b : Bool). cond {A = List Row} b (set rows i r) rows) (lt-ltb i (length rows) h)
+placed_at i r rows h = grind arith
 
 -- a place of these rows that is free
 abbrev pub FreeAt : List Row → Option ℕ → Type 0
@@ -115,7 +88,7 @@ module _ (places next k : ℕ) (r : Row) (s : Orders) (rows : List Row) (aside :
   pub rest_sound : (a : Order) → r ≡ row_of a → s k ≡ Some a → a.number ≡ k → (i : ℕ) → i < length rows → order_of (get_or rows i cleared) ≡ None → Sound places next s (set rows i r)
   rest_sound a er q en i l f = record {
     holds = write_holds places (put k None s) rows aside.holds i k
-        (record { within = l; mine = λ o w. absurd (none_some o (sym f ∙ w)); here = λ o w. absurd (none_some o (sym (put_same k None s k refl) ∙ w)) })
+        (record { within = l; mine = λ o w. absurd (none-some o (sym f ∙ w)); here = λ o w. absurd (none-some o (sym (put_same k None s k refl) ∙ w)) })
         r (inr (a, er, en)) s (q ∙ sym (row_order r a er)) (λ n ne. sym (put_other k None s n ne));
     stamped = aside.stamped;
   }
@@ -152,84 +125,53 @@ module _ (places next : ℕ) (s : Orders) (rows : List Row) (sound : Sound place
 
   -- a cancelled order leaves its place cleared
   pub cancel_sound : Sound places next (put n None s) (set rows i cleared)
-  cancel_sound = rewrite_sound None cleared next (inl refl) refl (omega arith) (λ p r. absurd (none_some p r))
+  cancel_sound = rewrite_sound None cleared next (inl refl) refl (omega arith) (λ p r. absurd (none-some p r))
 
--- the ranges of a row, one by one
-record Fit (r : Row) : Type 0 where
-  codes : codes_fit r.side r.kind r.mark r.hidden ≡ true
-  left : shares_fit r.left ≡ true
-  size : shares_fit r.size ≡ true
-  broker : broker_fits r.broker ≡ true
-  stamp : stamp_fits r.stamp ≡ true
-  number : stamp_fits r.number ≡ true
-  limit : cond (leb 3 r.kind && leb r.kind 5) (eqb r.limit 0) (on_grid r.limit) ≡ true
-  minimum : cond (eqb r.kind 3 || eqb r.kind 8) (eqb r.minimum 0) (leb r.minimum most_shares) ≡ true
-  hidden : (eqb r.kind 1 || eqb r.hidden 0) ≡ true
+-- the tests of an amended row, from those of the row before and of the entry that it is judged as
+module _ (r : Row) (shares limit next : ℕ) where
+  abbrev limit_test : ℕ → Bool
+  limit_test n = cond (leb 3 r.kind && leb r.kind 5) (eqb n 0) (on_grid n)
 
-fit_of : (r : Row) → row_fits r ≡ true → Fit r
-fit_of r e =
-    let a = and_parts _ _ e in
-    let b = and_parts _ _ a.1 in
-    let c = and_parts _ _ b.0 in
-    let d = and_parts _ _ c.0 in
-    let f = and_parts _ _ d.0 in
-    let g = and_parts _ _ f.0 in
-    let h = and_parts _ _ b.1 in
-    let i = and_parts _ _ h.0 in
-    record { codes = a.0; left = g.0; size = g.1; broker = f.1; stamp = d.1; number = c.1; limit = i.0; minimum = i.1; hidden = h.1 }
+  abbrev minimum_test : ℕ → Bool
+  minimum_test n = cond (eqb r.kind 3 || eqb r.kind 8) (eqb n 0) (leb n most_shares)
 
-row_fits_lem : (r : Row) → Fit r → row_fits r ≡ true
-row_fits_lem r f =
-    and_from _ _ f.codes
-    (and_from _ _ (and_from _ _ (and_from _ _ (and_from _ _ (and_from _ _ f.left f.size) f.broker) f.stamp) f.number)
-    (and_from _ _ (and_from _ _ f.limit f.minimum) f.hidden))
+  -- the parts of the three rows, whatever they say
+  parts : (codes left size broker stamp number limit minimum hidden left' limit' minimum' stamp' : Bool)
+      → (codes && ((left && size && broker && stamp && number) && (limit && minimum && hidden))) ≡ true
+      → (codes && ((left' && left' && broker && true && true) && (limit' && minimum' && hidden))) ≡ true
+      → (stamp ≡ true → stamp' ≡ true)
+      → (codes && ((left' && left' && broker && stamp' && number) && (limit' && minimum && hidden))) ≡ true
+  parts codes left size broker stamp number limit minimum hidden left' limit' minimum' stamp' e f g = grind arith
 
-stamp_fits_lem : (b : Bool) (next old : ℕ) → 1 ≤ next → (b ≡ true → next ≤ last_stamp) → stamp_fits old ≡ true → stamp_fits (cond {A = ℕ} b next old) ≡ true
-stamp_fits_lem true next old low high f = let h = high refl in grind (arith, nat_tests)
-stamp_fits_lem false next old low high f = f
+  stamped_fits : (b : Bool) → 1 ≤ next → (b ≡ true → next ≤ last_stamp) → stamp_fits r.stamp ≡ true → stamp_fits (cond {A = ℕ} b next r.stamp) ≡ true
+  stamped_fits b low high f = grind (arith, nat_tests)
+
+  amended_fits : row_fits r ≡ true → row_fits (entry_row (amended_entry r shares limit) 1) ≡ true → 1 ≤ next → (loses_time r shares limit ≡ true → next ≤ last_stamp) → row_fits (amended_row r shares limit next) ≡ true
+  amended_fits e f low high =
+      parts (codes_fit r.side r.kind r.mark r.hidden)
+      (shares_fit r.left) (shares_fit r.size) (broker_fits r.broker) (stamp_fits r.stamp) (stamp_fits r.number) (limit_test r.limit) (minimum_test r.minimum) (eqb r.kind 1 || eqb r.hidden 0)
+      (shares_fit shares) (limit_test limit) (minimum_test (amended_entry r shares limit).minimum) (stamp_fits (amended_row r shares limit next).stamp)
+      e f (stamped_fits (loses_time r shares limit) low high)
 
 -- an amended order is one, if the entry that it is judged as makes one
 module _ (o : Order) (shares limit next : ℕ) (taken : is_some (order_of (entry_row (amended_entry (row_of o) shares limit) 1)) ≡ true) (low : 1 ≤ next) (high : loses_time (row_of o) shares limit ≡ true → next ≤ last_stamp) where
-  judged : Fit (entry_row (amended_entry (row_of o) shares limit) 1)
-  judged = fit_of (entry_row (amended_entry (row_of o) shares limit) 1) (sym (order_test (entry_row (amended_entry (row_of o) shares limit) 1)) ∙ taken)
-
-  stood : Fit (row_of o)
-  stood = fit_of (row_of o) (sym (order_test (row_of o)) ∙ ap is_some (order_back o))
-
   abbrev v : Row
   v = amended_row (row_of o) shares limit next
 
-  fits : Fit v
-  fits = record {
-    codes = stood.codes;
-    left = judged.left;
-    size = judged.left;
-    broker = stood.broker;
-    stamp = stamp_fits_lem (loses_time (row_of o) shares limit) next o.stamp low high stood.stamp;
-    number = stood.number;
-    limit = judged.limit;
-    minimum = stood.minimum;
-    hidden = stood.hidden;
-  }
-
   pub amended_order : (p : Order) × (order_of v ≡ Some p) × (v ≡ row_of p)
   amended_order =
-      let w = some_is (order_of v) (order_test v ∙ row_fits_lem v fits) in
+      let fits : row_fits v ≡ true =
+      amended_fits (row_of o) shares limit next (sym (order_test (row_of o)) ∙ ap is_some (order_back o)) (sym (order_test (entry_row (amended_entry (row_of o) shares limit) 1)) ∙ taken) low high in
+      let w = some_is (order_of v) (order_test v ∙ fits) in
       (w.0, w.1, sym (row_is v w.0 w.1))
 
   -- an order that loses time is the youngest
   restamped : (b : Bool) → loses_time (row_of o) shares limit ≡ b → (p : Order) → v ≡ row_of p → o.stamp < next
       → (p.stamp < cond {A = ℕ} b (next + 1) next) × ((p.stamp ≡ o.stamp) ⊎ (next ≤ p.stamp))
-  restamped true e p r h =
-      let z : p.stamp ≡ next = sym (ap (λ (x : Row). x.stamp) r) ∙ ap (λ (b : Bool). cond {A = ℕ} b next o.stamp) e in
-      (omega (arith, z), inr (omega (arith, z)))
-  restamped false e p r h =
-      let z : p.stamp ≡ o.stamp = sym (ap (λ (x : Row). x.stamp) r) ∙ ap (λ (b : Bool). cond {A = ℕ} b next o.stamp) e in
-      (omega (arith, z, h), inl z)
+  restamped b e p r h = grind (arith, common_steps)
 
   next_grows : (b : Bool) → next ≤ cond {A = ℕ} b (next + 1) next
-  next_grows true = omega arith
-  next_grows false = omega arith
+  next_grows b = grind (arith, common_steps)
 
   -- an amended order stands in its place
   pub amend_sound : (places : ℕ) (s : Orders) (rows : List Row) (sound : Sound places next s rows) (n i : ℕ) → s n ≡ Some o → i < length rows → get_or rows i cleared ≡ row_of o → o.number ≡ n

@@ -27,9 +27,9 @@ plus k x t n = t n + cond {A = ℕ} (n == k) x 0
 
 -- what an accepted call adds, its fills apart
 abbrev pub counted : Call → Receipt → Sheet → Tally → Tally
-counted (Enter e) r s t = record { entered = plus s.next e.shares t.entered; added = t.added; filled = t.filled; cut = t.cut; cancelled = plus s.next r.cancelled t.cancelled }
-counted (Amend n shares limit) r s t = record { entered = t.entered; added = plus n (shares - left_of (s.orders n)) t.added; filled = t.filled; cut = plus n r.cancelled t.cut; cancelled = t.cancelled }
-counted (Cancel n) r s t = record { entered = t.entered; added = t.added; filled = t.filled; cut = t.cut; cancelled = plus n r.cancelled t.cancelled }
+counted (Enter e) r s t = record t { entered = plus s.next e.shares t.entered; cancelled = plus s.next r.cancelled t.cancelled }
+counted (Amend a) r s t = record t { added = plus a.number (a.shares - left_of (s.orders a.number)) t.added; cut = plus a.number r.cancelled t.cut }
+counted (Cancel n) r s t = record t { cancelled = plus n r.cancelled t.cancelled }
 counted (Quote bid offer) r s t = t
 counted Withdraw r s t = t
 counted Halt r s t = t
@@ -37,7 +37,7 @@ counted Resume r s t = t
 counted Close r s t = t
 
 abbrev pub with_fills : List Fill → Tally → Tally
-with_fills fs t = record { entered = t.entered; added = t.added; filled = λ n. t.filled n + takes_all fs n; cut = t.cut; cancelled = t.cancelled }
+with_fills fs t = record t { filled = λ n. t.filled n + takes_all fs n }
 
 -- the tally after a call on the sheet that stood before it
 abbrev pub tallied : Call → Result Receipt Refusal → List Fill → Sheet → Tally → Tally

@@ -12,7 +12,7 @@ use Rattle.orders.specs.declared.refusal.Refusal.TheVariants as refusal
 use Rattle.terms.specs.declared.rejection.Rejection.{Rejection}
 use Rattle.terms.specs.declared.rejection.Rejection.TheVariants.{BadKind, BadParty, BadShares, BadLimit, BadMinimum}
 use Rattle.matching.specs.Sums.{weighed}
-use Rattle.places.specs.Amendments.{loses_time, amended_entry}
+use Rattle.orders.specs.Amendments.{loses_time, amended_entry}
 use Rattle.places.specs.Remainders.{rests_as, at_once_as}
 use Rattle.places.specs.declared.phase.Phase.TheVariants as phase
 use Rattle.book.specs.States.{Rules}
@@ -71,10 +71,10 @@ call_causes u places s (Enter e) =
     ++ (cause refusal.NoPlace ((rests_as (kind_of e.kind) ≡ true) × (places ≤ standing s.orders s.next))
     ∷ cause refusal.NoStamp (last_stamp < s.next)
     ∷ []))
-call_causes u places s (Amend n shares limit) =
-    cause refusal.NotResting (s.orders n ≡ None)
-    ∷ (field_causes (AmendJudged u s n shares limit)
-    ++ (cause refusal.NoStamp ((o : Order) × (s.orders n ≡ Some o) × (loses_time (row_of o) shares limit ≡ true) × (last_stamp < s.next))
+call_causes u places s (Amend a) =
+    cause refusal.NotResting (s.orders a.number ≡ None)
+    ∷ (field_causes (AmendJudged u s a.number a.shares a.limit)
+    ++ (cause refusal.NoStamp ((o : Order) × (s.orders a.number ≡ Some o) × (loses_time (row_of o) a.shares a.limit ≡ true) × (last_stamp < s.next))
     ∷ []))
 call_causes u places s (Cancel n) = cause refusal.NotResting (s.orders n ≡ None) ∷ []
 call_causes u places s (Quote bid offer) = cause refusal.WrongQuote (quote_of bid offer ≡ None) ∷ []

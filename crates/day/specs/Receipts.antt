@@ -11,7 +11,7 @@ use Rattle.day.specs.Sheets.{Orders, Sheet, left_of, takes_all}
 -- the number of the call's order: an entry takes the next stamp; some calls have no order
 abbrev pub number_in : Sheet → Call → Option ℕ
 number_in s (Enter e) = Some s.next
-number_in s (Amend n shares limit) = Some n
+number_in s (Amend a) = Some a.number
 number_in s (Cancel n) = Some n
 number_in s (Quote bid offer) = None
 number_in s Withdraw = None
@@ -23,7 +23,7 @@ number_in s Close = None
 -- shares, of a cancel all that was left
 abbrev pub cancelled_in : Sheet → Call → List Fill → ℕ
 cancelled_in s (Enter e) fs = cond {A = ℕ} (rests_as (kind_of e.kind)) 0 (e.shares - takes_all fs s.next)
-cancelled_in s (Amend n shares limit) fs = left_of (s.orders n) - shares
+cancelled_in s (Amend a) fs = left_of (s.orders a.number) - a.shares
 cancelled_in s (Cancel n) fs = left_of (s.orders n)
 cancelled_in s (Quote bid offer) fs = 0
 cancelled_in s Withdraw fs = 0

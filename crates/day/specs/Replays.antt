@@ -1,5 +1,5 @@
 -- What a replay does.
-use Rattle.std.specs.Prelude.{◌≡◌, ℕ, true, false, List, [], ◌∷◌, ◌++◌, length, drop, replicate, Ok, Err, Result}
+use Rattle.std.specs.Prelude.{◌≡◌, ℕ, true, false, List, length, replicate, Ok, Err, Result}
 use Rattle.orders.specs.Rows.{cleared}
 use Rattle.orders.specs.declared.call.Fill.{Fill}
 use Rattle.orders.specs.declared.refusal.Refusal.{Refusal}
@@ -9,19 +9,10 @@ use Rattle.book.specs.Causes.{openable}
 use Rattle.book.specs.States.{Rules}
 use Rattle.day.specs.declared.item.Item.{Item}
 use Rattle.day.specs.Steps.{Step, Handed}
+use Rattle.day.specs.Plays.{last_rows, overlaid}
 use Rattle.day.specs.Sheets.{opening}
 use Rattle.day.specs.Balances.{nothing}
 use Rattle.day.specs.Law.{Day}
-
--- the places after the last of the steps
-abbrev pub last_rows : List Row → List Step → List Row
-last_rows rows [] = rows
-last_rows rows (x ∷ xs) = last_rows x.rows xs
-
--- a list of fills once each step has written its own over the first entries; entries that no step wrote stay
-abbrev pub overlaid : List Fill → List Step → List Fill
-overlaid old [] = old
-overlaid old (x ∷ xs) = overlaid (x.fills ++ drop (length x.fills) old) xs
 
 -- what is lent to a replay, before or after it
 pub record Lent (R : Type 0) : Type 0 where

@@ -12,7 +12,7 @@ use Rattle.orders.specs.declared.order.Order.{Order}
 use Rattle.orders.specs.declared.quote.Quote as quotes
 use Rattle.orders.specs.declared.refusal.Refusal.{Refusal}
 use Rattle.matching.specs.Trades.{lessened}
-use Rattle.places.specs.Amendments.{loses_time, amended_row}
+use Rattle.orders.specs.Amendments.{loses_time, amended_row}
 use Rattle.places.specs.Remainders.{rests_as}
 use Rattle.places.specs.declared.phase.Phase.{Phase}
 use Rattle.places.specs.declared.phase.Phase.TheVariants as phase
@@ -49,20 +49,17 @@ restamps (Some o) shares limit = loses_time (row_of o) shares limit
 
 -- the sheet once an accepted call is written there, before its fills
 abbrev pub written : Call → Sheet → Sheet
-written (Enter e) s = record { lot = s.lot; phase = s.phase; quote = s.quote; next = s.next + 1; orders = put s.next (order_of (entry_row e s.next)) s.orders }
-written (Amend n shares limit) s = record {
-  lot = s.lot;
-  phase = s.phase;
-  quote = s.quote;
-  next = cond {A = ℕ} (restamps (s.orders n) shares limit) (s.next + 1) s.next;
-  orders = put n (amended_to (s.orders n) shares limit s.next) s.orders;
+written (Enter e) s = record s { next = s.next + 1; orders = put s.next (order_of (entry_row e s.next)) s.orders }
+written (Amend a) s = record s {
+  next = cond {A = ℕ} (restamps (s.orders a.number) a.shares a.limit) (s.next + 1) s.next;
+  orders = put a.number (amended_to (s.orders a.number) a.shares a.limit s.next) s.orders;
 }
-written (Cancel n) s = record { lot = s.lot; phase = s.phase; quote = s.quote; next = s.next; orders = put n None s.orders }
-written (Quote bid offer) s = record { lot = s.lot; phase = s.phase; quote = quote_of bid offer; next = s.next; orders = s.orders }
-written Withdraw s = record { lot = s.lot; phase = s.phase; quote = None; next = s.next; orders = s.orders }
-written Halt s = record { lot = s.lot; phase = phase.Halted; quote = s.quote; next = s.next; orders = s.orders }
-written Resume s = record { lot = s.lot; phase = phase.Open; quote = s.quote; next = s.next; orders = s.orders }
-written Close s = record { lot = s.lot; phase = phase.Closed; quote = s.quote; next = s.next; orders = s.orders }
+written (Cancel n) s = record s { orders = put n None s.orders }
+written (Quote bid offer) s = record s { quote = quote_of bid offer }
+written Withdraw s = record s { quote = None }
+written Halt s = record s { phase = phase.Halted }
+written Resume s = record s { phase = phase.Open }
+written Close s = record s { phase = phase.Closed }
 
 -- an order with so many shares fewer; none where none is left
 abbrev pub less_of : ℕ → Option Order → Option Order
@@ -85,7 +82,7 @@ took_all (f ∷ fs) s = took_all fs (took f s)
 -- an entry of a kind that does not rest
 abbrev pub passing : Call → Bool
 passing (Enter e) = not (rests_as (kind_of e.kind))
-passing (Amend n shares limit) = false
+passing (Amend a) = false
 passing (Cancel n) = false
 passing (Quote bid offer) = false
 passing Withdraw = false
@@ -98,7 +95,7 @@ abbrev pub leaves : Call → (k : ℕ) → Orders → Orders
 leaves c k s = cond {A = Orders} (passing c) (put k None s) s
 
 abbrev pub with_orders : Sheet → Orders → Sheet
-with_orders s o = record { lot = s.lot; phase = s.phase; quote = s.quote; next = s.next; orders = o }
+with_orders s o = record s { orders = o }
 
 -- the sheet after an accepted call with these fills
 abbrev pub accepted : Call → List Fill → Sheet → Sheet

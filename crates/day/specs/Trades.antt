@@ -59,7 +59,7 @@ InTurn m s (f ∷ fs) = Oldest m s f × InTurn m (took f s) fs
 -- only an entry has fills of its own, and only in an open book
 abbrev pub OwnFills : Rules → Sheet → Call → List Fill → Type 0
 OwnFills u s (Enter e) fs = IfOpen s.phase (Own (market_on u s) s.next false (written (Enter e) s).orders fs) (fs ≡ [])
-OwnFills u s (Amend n shares limit) fs = fs ≡ []
+OwnFills u s (Amend a) fs = fs ≡ []
 OwnFills u s (Cancel n) fs = fs ≡ []
 OwnFills u s (Quote bid offer) fs = fs ≡ []
 OwnFills u s Withdraw fs = fs ≡ []

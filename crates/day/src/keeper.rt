@@ -1,9 +1,10 @@
 // A recorder that keeps every step.
-ghost use Rattle.std.specs.Prelude.{◌≡◌, true, false, [], IfOk, MatchResult};
-ghost use Rattle.day.specs.Keeps.{step_in, kept_in, Keeps};
+ghost use Rattle.std.specs.Prelude.{◌≡◌, [], ◌∷◌, ◌++◌, Ok, Err, is_err, OnOk, MatchResult};
+ghost use Rattle.day.specs.Keeps.{kept_in, Keeps};
+ghost use Rattle.day.specs.Steps.{step_told};
 
 use crate::item::Item;
-use crate::recorder::Recorder;
+use crate::recorder::{Recorder, Told};
 use orders::call::{Fill, Reply};
 use orders::row::Row;
 use std::alloc::{AllocError, Global};
@@ -19,47 +20,26 @@ pub struct KeptStep {
 
 #[derive(Drop)]
 pub struct Keeper {
-    pub(crate) heap: Global,
     pub(crate) steps: Vec<KeptStep>,
-    // memory ended; nothing is kept from then on
-    pub(crate) full: bool,
-}
-
-fn kept_step(
-    heap: Global,
-    item: &Item,
-    reply: &Reply,
-    fills: &[Fill],
-    places: &[Row],
-) -> Result<KeptStep, AllocError>
-    ensures { IfOk result (λ k. step_in k ≡ record { item = item.now; reply = reply.now; fills = fills.now; rows = places.now }) }
-{
-    let own_fills = Vec::from_slice(heap, fills)?;
-    let own_places = Vec::from_slice(heap, places)?;
-    Ok(KeptStep {
-        item: *item,
-        reply: *reply,
-        fills: own_fills,
-        places: own_places,
-    })
+    // an error once memory ended; nothing is kept from then on, and the steps kept before can still be read
+    pub(crate) outcome: Result<(), AllocError>,
 }
 
 impl Keeper {
     pub fn new(heap: Global) -> Keeper
-        ensures { (kept_in result ≡ []) × (result.full ≡ false) }
+        ensures { (kept_in result ≡ []) × (result.outcome ≡ Ok tt) }
     {
         Keeper {
-            heap,
             steps: Vec::new(heap),
-            full: false,
+            outcome: Ok(()),
         }
     }
 
     // Whether memory ended, so that steps are missing.
     pub fn is_full(&self) -> bool
-        ensures { result ≡ self.now.full }
+        ensures { result ≡ is_err self.now.outcome }
     {
-        self.full
+        self.outcome.is_err()
     }
 
     // The steps that were kept.
@@ -71,33 +51,34 @@ impl Keeper {
 
     // All the steps, unless memory ended.
     pub fn into_steps(self) -> Result<Vec<KeptStep>, AllocError>
-        ensures { MatchResult result (λ x. (x ≡ self.steps) × (self.full ≡ false)) (λ _. self.full ≡ true) }
+        ensures { MatchResult result (λ x. (x ≡ self.steps) × (self.outcome ≡ Ok tt)) (λ e. self.outcome ≡ Err e) }
     {
-        if self.full {
-            return Err(AllocError);
-        }
-        let Keeper {
-            heap: _,
-            steps,
-            full: _,
-        } = self;
+        let Keeper { steps, outcome } = self;
+        outcome?;
         Ok(steps)
+    }
+
+    fn keep(&mut self, told: Told<'_>) -> Result<(), AllocError>
+        ensures { OnOk result (kept_in self.new ≡ kept_in self.old ++ step_told told.entry ∷ []) }
+    {
+        let heap = *self.steps.allocator();
+        let step = KeptStep {
+            item: *told.item,
+            reply: *told.reply,
+            fills: Vec::from_slice(heap, told.fills)?,
+            places: Vec::from_slice(heap, told.places)?,
+        };
+        self.steps.push(step)?;
+        Ok(())
     }
 }
 
 impl Recorder for Keeper {
     ghost notes = { Keeps };
 
-    fn note(&mut self, item: &Item, reply: &Reply, fills: &[Fill], places: &[Row]) {
-        if self.full {
-            return;
-        }
-        match kept_step(self.heap, item, reply, fills, places) {
-            Ok(step) => match self.steps.push(step) {
-                Ok(()) => {}
-                Err(_) => self.full = true,
-            },
-            Err(_) => self.full = true,
+    fn note(&mut self, told: Told<'_>) {
+        if self.outcome.is_ok() {
+            self.outcome = self.keep(told);
         }
     }
 }

@@ -1,7 +1,7 @@
 // Where lines and words begin and end.
 use crate::trying::{Edge, expect};
 
-pub(crate) fn lines() -> [Edge; 6] {
+pub(crate) fn lines() -> [Edge<'static>; 6] {
     [
         expect("an empty text", b"", ""),
         expect("only a line end", b"\n", "1 BAD 22 0\n"),
@@ -20,7 +20,7 @@ pub(crate) fn lines() -> [Edge; 6] {
     ]
 }
 
-pub(crate) fn spaces() -> [Edge; 6] {
+pub(crate) fn spaces() -> [Edge<'static>; 6] {
     [
         expect("only a space", b" \n", "1 BAD 22 0\n"),
         expect("a leading space", b" HALT\n", "1 BAD 22 0\n"),
@@ -35,7 +35,7 @@ pub(crate) fn spaces() -> [Edge; 6] {
     ]
 }
 
-pub(crate) fn other_bytes() -> [Edge; 10] {
+pub(crate) fn other_bytes() -> [Edge<'static>; 10] {
     [
         expect("only a carriage return", b"\r\n", "1 BAD 22 0\n"),
         expect(

@@ -2,7 +2,7 @@
 use crate::trying::{Edge, expect};
 
 // The byte is the length of the line.
-pub(crate) fn missing() -> [Edge; 10] {
+pub(crate) fn missing() -> [Edge<'static>; 10] {
     [
         expect("no book", b"OPEN\n", "1 BAD 22 4\n"),
         expect("no last sale", b"OPEN LIT\n", "1 BAD 22 8\n"),
@@ -21,7 +21,7 @@ pub(crate) fn missing() -> [Edge; 10] {
     ]
 }
 
-pub(crate) fn extra() -> [Edge; 9] {
+pub(crate) fn extra() -> [Edge<'static>; 9] {
     [
         expect(
             "a word after an opening",
@@ -48,7 +48,7 @@ pub(crate) fn extra() -> [Edge; 9] {
 }
 
 // The mark and the hidden mark of an entry are left out both together.
-pub(crate) fn marks() -> [Edge; 7] {
+pub(crate) fn marks() -> [Edge<'static>; 7] {
     [
         expect(
             "a mark without a hidden mark",
@@ -88,7 +88,7 @@ pub(crate) fn marks() -> [Edge; 7] {
     ]
 }
 
-pub(crate) fn capitals() -> [Edge; 8] {
+pub(crate) fn capitals() -> [Edge<'static>; 8] {
     [
         expect("a command in small letters", b"halt\n", "1 BAD 22 0\n"),
         expect("a command with one capital", b"Halt\n", "1 BAD 22 0\n"),
@@ -113,7 +113,7 @@ pub(crate) fn capitals() -> [Edge; 8] {
     ]
 }
 
-pub(crate) fn openings() -> [Edge; 4] {
+pub(crate) fn openings() -> [Edge<'static>; 4] {
     [
         expect(
             "before any opening",

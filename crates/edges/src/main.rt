@@ -8,21 +8,21 @@ mod lengths;
 mod numbers;
 mod trying;
 
-use trying::try_all;
+use trying::play_all;
 
 fn run(rt: &HostRuntime) -> anyhow::Result<()> {
-    try_all(rt, &bytes::lines())?;
-    try_all(rt, &bytes::spaces())?;
-    try_all(rt, &bytes::other_bytes())?;
-    try_all(rt, &numbers::forms())?;
-    try_all(rt, &numbers::ranges())?;
-    try_all(rt, &faults::missing())?;
-    try_all(rt, &faults::extra())?;
-    try_all(rt, &faults::marks())?;
-    try_all(rt, &faults::capitals())?;
-    try_all(rt, &faults::openings())?;
-    lengths::try_lines(rt)?;
-    lengths::try_texts(rt)
+    play_all(rt, &bytes::lines())?;
+    play_all(rt, &bytes::spaces())?;
+    play_all(rt, &bytes::other_bytes())?;
+    play_all(rt, &numbers::forms())?;
+    play_all(rt, &numbers::ranges())?;
+    play_all(rt, &faults::missing())?;
+    play_all(rt, &faults::extra())?;
+    play_all(rt, &faults::marks())?;
+    play_all(rt, &faults::capitals())?;
+    play_all(rt, &faults::openings())?;
+    lengths::play_lines(rt)?;
+    lengths::play_texts(rt)
 }
 
 fn main(rt: HostRuntime) -> anyhow::Result<()> {

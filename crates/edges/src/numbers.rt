@@ -2,7 +2,7 @@
 use crate::trying::{Edge, expect};
 
 // Nothing is open: a number that is well formed meets 1.
-pub(crate) fn forms() -> [Edge; 11] {
+pub(crate) fn forms() -> [Edge<'static>; 11] {
     [
         expect("the number 0", b"ASK 0\n", "1 NO 1\n"),
         expect("the number 4294967295", b"ASK 4294967295\n", "1 NO 1\n"),
@@ -24,7 +24,7 @@ pub(crate) fn forms() -> [Edge; 11] {
 }
 
 // Well formed, however large: the call meets the refusal that fits.
-pub(crate) fn ranges() -> [Edge; 6] {
+pub(crate) fn ranges() -> [Edge<'static>; 6] {
     [
         expect(
             "the largest number in an opening",

@@ -1,14 +1,16 @@
 // Plays a text and compares its listing with the expected one.
 use session::text::listing_of;
 
+// A text, by its name, and the listing that it must give.
 #[derive(Clone, Copy)]
-pub struct Edge {
-    pub name: &'static str,
-    pub text: &'static [u8],
-    pub expected: &'static str,
+pub struct Edge<'a> {
+    pub name: &'a str,
+    pub text: &'a [u8],
+    pub expected: &'a str,
 }
 
-pub(crate) fn expect(name: &'static str, text: &'static [u8], expected: &'static str) -> Edge {
+// So short that most edges of a table take one line; a table of constants cannot call a function, and would take five each.
+pub(crate) fn expect<'a>(name: &'a str, text: &'a [u8], expected: &'a str) -> Edge<'a> {
     Edge {
         name,
         text,
@@ -16,24 +18,21 @@ pub(crate) fn expect(name: &'static str, text: &'static [u8], expected: &'static
     }
 }
 
-pub(crate) fn try_text(
-    rt: &HostRuntime,
-    name: &str,
-    text: &[u8],
-    expected: &[u8],
-) -> anyhow::Result<()> {
-    let listing = listing_of(rt.alloc(), text)?;
-    if listing.as_bytes() == expected {
-        println!(rt; "{name}: as expected")?;
-    } else {
-        println!(rt; "{name}: got\n{listing}")?;
+impl Edge<'_> {
+    pub(crate) fn play(&self, rt: &HostRuntime) -> anyhow::Result<()> {
+        let listing = listing_of(rt.alloc(), self.text)?;
+        if listing.as_str() == self.expected {
+            println!(rt; "{}: as expected", self.name)?;
+        } else {
+            println!(rt; "{}: got\n{listing}", self.name)?;
+        }
+        Ok(())
     }
-    Ok(())
 }
 
-pub(crate) fn try_all(rt: &HostRuntime, edges: &[Edge]) -> anyhow::Result<()> {
+pub(crate) fn play_all(rt: &HostRuntime, edges: &[Edge<'_>]) -> anyhow::Result<()> {
     for edge in edges {
-        try_text(rt, edge.name, edge.text, edge.expected.as_bytes())?;
+        edge.play(rt)?;
     }
     Ok(())
 }

@@ -2,7 +2,7 @@
 use Rattle.std.specs.Prelude.{ℕ, List, [], ◌∷◌, ◌++◌, codes, decimal}
 use Rattle.orders.specs.Codes.{refusal_number}
 use Rattle.reader.specs.Faults.{fault_number, fault_byte}
-use Rattle.verbs.specs.Vocabulary.{side_word}
+use Rattle.orders.specs.Sides.{side_word}
 use Rattle.listing.specs.declared.line.Report.{Report}
 use Rattle.listing.specs.declared.line.Report.TheVariants.{Taken, Filled, Refused, Bad}
 use Rattle.listing.specs.declared.line.Line.{Line}

@@ -1,51 +1,44 @@
 // A sink that keeps the bytes.
-ghost use Rattle.std.specs.Prelude.{◌≡◌, Bool, true, false, [], string_bytes, MatchResult};
-ghost use Rattle.listing.specs.Sinks.{Appends};
+ghost use Rattle.std.specs.Prelude.{◌≡◌, [], is_err, IsOkAnd, string_bytes};
+ghost use Rattle.listing.specs.Sinks.{Appends, kept_bytes};
 
 use crate::line::Line;
 use crate::sink::Sink;
 use std::alloc::{AllocError, Global};
 use std::fmt::Write;
 
+// What keeps a day's steps has another shape, since they can be read after memory ended.
 #[derive(Drop)]
 pub struct Keeper {
-    pub(crate) bytes: String,
-    // memory ended; nothing is kept from then on
-    pub(crate) full: bool,
+    // the bytes of all lines; from the moment that memory ended, its error
+    pub(crate) kept: Result<String, AllocError>,
 }
 
 impl Keeper {
     pub fn new(heap: Global) -> Keeper
-        ensures { (string_bytes result.bytes ≡ []) × (result.full ≡ false) }
+        ensures { IsOkAnd result.kept (λ s. string_bytes s ≡ []) }
     {
         Keeper {
-            bytes: String::new(heap),
-            full: false,
+            kept: Ok(String::new(heap)),
         }
     }
 
     // All that was kept, unless memory ended.
     pub fn into_listing(self) -> Result<String, AllocError>
-        ensures { MatchResult result (λ x. (x ≡ self.bytes) × (self.full ≡ false)) (λ _. self.full ≡ true) }
+        ensures { result ≡ self.kept }
     {
-        if self.full {
-            return Err(AllocError);
-        }
-        let Keeper { bytes, full: _ } = self;
-        Ok(bytes)
+        self.kept
     }
 }
 
 impl Sink for Keeper {
-    ghost writes = { λ s l t. Appends s.full (string_bytes s.bytes) l t.full (string_bytes t.bytes) };
+    ghost writes = { λ s l t. Appends (is_err s.kept) (kept_bytes s.kept) l (is_err t.kept) (kept_bytes t.kept) };
 
     fn write_line(&mut self, line: &Line) {
-        if self.full {
-            return;
-        }
-        match write!(self.bytes, "{line}") {
-            Ok(()) => {}
-            Err(_) => self.full = true,
+        if let Ok(bytes) = &mut self.kept {
+            if let Err(error) = write!(bytes, "{line}") {
+                self.kept = Err(error);
+            }
         }
     }
 }

@@ -1,5 +1,5 @@
+pub mod Reductions
 pub mod Scans
-pub mod Options
 pub mod Rows
 pub mod Chosen
 pub mod Laying

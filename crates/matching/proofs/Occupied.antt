@@ -1,7 +1,8 @@
 -- How many places hold an order, and what a trade does to that.
-use Rattle.std.proofs.Common.{◌≡◌, ℕ, zero, suc, ◌+◌, ◌<◌, ◌≤◌, Bool, true, false, cond, ◌⊎◌, List, [], ◌∷◌, length, get_or, set, is_some, Some, Option, ap, ◌∙◌, inl, inr, ⊎_elim, le_of_suc-le-suc, not-suc-le-zero, arith}
+use Rattle.std.proofs.Common.{◌≡◌, ℕ, zero, suc, ◌+◌, ◌<◌, ◌≤◌, Bool, cond, ◌⊎◌, List, [], ◌∷◌, length, get_or, set, is_some, Some, Option, ap, ◌∙◌, inl, inr, ⊎_elim, le_of_suc-le-suc, not-suc-le-zero, arith}
 use Rattle.std.proofs.lemmas.List.{length-set, get_or-set_other}
 use Rattle.std.proofs.lemmas.Bool.{cases_lt}
+use Rattle.std.proofs.lemmas.Bool.Decides.{nat_tests}
 use Rattle.orders.specs.Rows.{order_of, row_of, cleared}
 use Rattle.orders.specs.declared.order.Order.{Order}
 use Rattle.orders.specs.declared.row.Row.{Row}
@@ -21,14 +22,10 @@ pub one_most : (r : Row) → one r ≤ 1
 one_most r = most (is_some (order_of r))
   where
     most : (b : Bool) → cond {A = ℕ} b 1 0 ≤ 1
-    most true = omega arith
-    most false = omega arith
+    most b = grind (arith, nat_tests)
 
 pub one_is : (r : Row) (o : Order) → order_of r ≡ Some o → one r ≡ 1
 one_is r o e = ap (λ (x : Option Order). cond {A = ℕ} (is_some x) 1 0) e
-
-pub one_cleared : (r : Row) → r ≡ cleared → one r ≡ 0
-one_cleared r e = ap one e
 
 pub occupied_most : (rows : List Row) → occupied rows ≤ length rows
 occupied_most [] = omega arith
@@ -44,8 +41,8 @@ occupied_set (r ∷ rs) (suc i) v h = omega (arith, occupied_set rs i v (le_of_s
 pub spends : (t : Meeting) → (one (left_active t) ≡ 0) ⊎ (one (left_passive t) ≡ 0)
 spends t =
     ⊎_elim
-    (λ h. inl (one_cleared (left_active t) (lessened_all (row_of t.active) (shares t) (omega arith))))
-    (λ h. inr (one_cleared (left_passive t) (lessened_all (row_of t.found.candidate.order) (shares t) (omega arith))))
+    (λ h. inl (ap one (lessened_all (row_of t.active) (shares t) (omega arith))))
+    (λ h. inr (ap one (lessened_all (row_of t.found.candidate.order) (shares t) (omega arith))))
     (cases_lt t.active.left t.found.candidate.order.left)
 
 module _ (m : Market) (rows : List Row) (p : Pair) (e : oldest m rows ≡ Some p) where
@@ -70,8 +67,4 @@ module _ (m : Market) (rows : List Row) (p : Pair) (e : oldest m rows ≡ Some p
 
   pub traded_fewer : occupied (traded rows p) + 1 ≤ occupied rows
   traded_fewer =
-      let z = both_set (left_active p.meeting) (left_passive p.meeting) in
-      ⊎_elim
-      (λ h. omega (arith, z, h, one_most (left_passive p.meeting)))
-      (λ h. omega (arith, z, h, one_most (left_active p.meeting)))
-      (spends p.meeting)
+      grind (arith, both_set (left_active p.meeting) (left_passive p.meeting), spends p.meeting, one_most (left_active p.meeting), one_most (left_passive p.meeting))

@@ -1,15 +1,15 @@
 -- How many fills an active order makes, and that it comes to an end.
-use Rattle.std.proofs.Common.{◌≡◌, ℕ, zero, suc, ◌+◌, ◌-◌, ◌<◌, ◌≤◌, Bool, ◌||◌, List, [], ◌∷◌, ◌++◌, length, get_or, Some, None, Option, sym, refl, ap, ◌∙◌, ⊎_elim, suc-add, arith}
+use Rattle.std.proofs.Common.{◌≡◌, ℕ, zero, suc, ◌+◌, ◌-◌, ◌<◌, ◌≤◌, Bool, ◌||◌, List, [], ◌∷◌, length, get_or, Some, None, Option, refl, ap, ◌∙◌, suc-add, arith}
 use Rattle.std.proofs.lemmas.List.{length-set}
 use Rattle.orders.specs.Rows.{cleared}
 use Rattle.orders.specs.declared.row.Row.{Row}
 use Rattle.matching.specs.declared.meeting.Meeting.{Meeting}
 use Rattle.matching.specs.Market.{Market}
 use Rattle.matching.specs.Trades.{fill_of, left_active, left_passive}
-use Rattle.matching.specs.Runs.{Done, meeting, touches, passed, turn, run}
+use Rattle.matching.specs.Runs.{Done, meeting, touches, passed, after, run}
 use Rattle.matching.specs.Sweeps.{occupied}
 use Rattle.matching.proofs.Chosen.{Meets, first_is, Next, meeting_is}
-use Rattle.matching.proofs.Running.{run_none, run_some}
+use Rattle.matching.proofs.Running.{run_none, run_some, run_by}
 use Rattle.matching.proofs.Occupied.{one, one_most, one_is, occupied_most, occupied_set, spends}
 
 module _ (m : Market) where
@@ -35,11 +35,7 @@ module _ (m : Market) where
 
     -- of the active order and those in the places one is gone
     pub passed_fewer : occupied (passed rows t) + one (left_active t) ≤ occupied rows
-    passed_fewer =
-        ⊎_elim
-        (λ h. omega (arith, passed_set, h, one_most (left_passive t)))
-        (λ h. omega (arith, passed_set, h, one_most (left_active t)))
-        (spends t)
+    passed_fewer = grind (arith, passed_set, spends t, one_most (left_passive t), one_most (left_active t))
 
     pub passed_long : length (passed rows t) ≡ length rows
     passed_long = length-set rows t.found.place (left_passive t)
@@ -50,32 +46,22 @@ module _ (m : Market) where
     pub few : length d.fills ≤ occupied rows
     pub long : length d.rows ≡ length rows
 
-  turn_bounds : (b : Bool) (r : Row) (rows : List Row) (go : Bool → Row → List Row → Done) → ((b : Bool) (r : Row) (rows : List Row) → Bounds r rows (go b r rows)) → ((b : Bool) (r : Row) (rows : List Row) → one r ≡ 0 → length (go b r rows).fills ≡ 0)
-      → (o : Option Meeting) → meeting m b r rows ≡ o → Bounds r rows (turn m b r rows go o)
-  turn_bounds b r rows go ih dead None e = record { all = omega arith; few = omega arith; long = refl }
-  turn_bounds b r rows go ih dead (Some t) e =
-      let g = ih (b || touches m t) (left_active t) (passed rows t) in
-      record {
-        all = omega (arith, g.all, passed_fewer b r rows t e, active_one b r rows t e);
-        few = ⊎_elim
-            (λ h. omega (arith, dead (b || touches m t) (left_active t) (passed rows t) h, meets_one b r rows t e))
-            (λ h. omega (arith, g.few, passed_set b r rows t e, h))
-            (spends t);
-        long = g.long ∙ passed_long b r rows t e;
-      }
-
   -- a row that is no order makes no fill
-  turn_dead : (n : ℕ) (b : Bool) (r : Row) (rows : List Row) → one r ≡ 0 → (o : Option Meeting) → meeting m b r rows ≡ o → length (turn m b r rows (λ b s ss. run m n b s ss) o).fills ≡ 0
-  turn_dead n b r rows h None e = refl
-  turn_dead n b r rows h (Some t) e = absurd (let z : ⊥ = omega (arith, active_one b r rows t e) in z)
-
   pub run_dead : (n : ℕ) (b : Bool) (r : Row) (rows : List Row) → one r ≡ 0 → length (run m n b r rows).fills ≡ 0
   run_dead zero b r rows h = refl
-  run_dead (suc n) b r rows h = turn_dead n b r rows h (meeting m b r rows) refl
+  run_dead (suc n) b r rows h = run_by m (λ d. length d.fills ≡ 0) n b r rows (λ e. refl) (λ t e. absurd (omega (arith, active_one b r rows t e)))
 
   pub run_bounds : (n : ℕ) (b : Bool) (r : Row) (rows : List Row) → Bounds r rows (run m n b r rows)
   run_bounds zero b r rows = record { all = omega arith; few = omega arith; long = refl }
-  run_bounds (suc n) b r rows = turn_bounds b r rows (λ b s ss. run m n b s ss) (run_bounds n) (run_dead n) (meeting m b r rows) refl
+  run_bounds (suc n) b r rows =
+      run_by m (Bounds r rows) n b r rows
+      (λ e. record { all = omega arith; few = omega arith; long = refl })
+      (λ t e. let g = run_bounds n (b || touches m t) (left_active t) (passed rows t) in
+      record {
+        all = omega (arith, g.all, passed_fewer b r rows t e, active_one b r rows t e);
+        few = grind (arith, g.few, passed_set b r rows t e, spends t, meets_one b r rows t e, run_dead n (b || touches m t) (left_active t) (passed rows t));
+        long = g.long ∙ passed_long b r rows t e;
+      })
 
   -- trades enough for the orders that are there: more make no difference
   abbrev pub Enough : ℕ → Row → List Row → Type 0
@@ -83,22 +69,14 @@ module _ (m : Market) where
 
   no_meeting : (b : Bool) (r : Row) (rows : List Row) → Enough zero r rows → (o : Option Meeting) → meeting m b r rows ≡ o → meeting m b r rows ≡ None
   no_meeting b r rows h None e = e
-  no_meeting b r rows h (Some t) e = absurd (let z : ⊥ = omega (arith, active_one b r rows t e, meets_one b r rows t e) in z)
-
-  turn_enough : (n k : ℕ) → ((b : Bool) (r : Row) (rows : List Row) → Enough n r rows → run m (n + k) b r rows ≡ run m n b r rows)
-      → (b : Bool) (r : Row) (rows : List Row) → Enough (suc n) r rows → (o : Option Meeting) → meeting m b r rows ≡ o → run m (suc (n + k)) b r rows ≡ run m (suc n) b r rows
-  turn_enough n k ih b r rows h None e = run_none m (suc (n + k)) b r rows e ∙ sym (run_none m (suc n) b r rows e)
-  turn_enough n k ih b r rows h (Some t) e =
-      run_some m (n + k) b r rows t e
-      ∙ ap (λ (d : Done). record { active = d.active; rows = d.rows; fills = (fill_of t ∷ []) ++ d.fills }) (ih (b || touches m t) (left_active t) (passed rows t) (omega (arith, h, passed_fewer b r rows t e, active_one b r rows t e)))
-      ∙ sym (run_some m n b r rows t e)
+  no_meeting b r rows h (Some t) e = absurd (omega (arith, active_one b r rows t e, meets_one b r rows t e))
 
   pub run_enough : (n k : ℕ) (b : Bool) (r : Row) (rows : List Row) → Enough n r rows → run m (n + k) b r rows ≡ run m n b r rows
-  run_enough zero k b r rows h =
-      let e = no_meeting b r rows h (meeting m b r rows) refl in
-      run_none m (zero + k) b r rows e ∙ sym (run_none m zero b r rows e)
+  run_enough zero k b r rows h = run_none m (zero + k) b r rows (no_meeting b r rows h (meeting m b r rows) refl)
   run_enough (suc n) k b r rows h =
-      ap (λ (i : ℕ). run m i b r rows) (suc-add n k) ∙ turn_enough n k (run_enough n k) b r rows h (meeting m b r rows) refl
+      ap (λ i. run m i b r rows) (suc-add n k)
+      ∙ run_by m (λ d. run m (suc (n + k)) b r rows ≡ d) n b r rows (run_none m (suc (n + k)) b r rows)
+      (λ t e. run_some m (n + k) b r rows t e ∙ ap (after (fill_of t ∷ [])) (run_enough n k (b || touches m t) (left_active t) (passed rows t) (omega (arith, h, passed_fewer b r rows t e, active_one b r rows t e))))
 
   -- a list with an entry for each place suffices
   pub run_same : (k : ℕ) (b : Bool) (r : Row) (rows : List Row) → length rows ≤ k → run m k b r rows ≡ run m (length rows) b r rows

@@ -13,7 +13,8 @@ pub record Market : Type 0 where
   pub before : (active : Order) → Candidate → Candidate → Bool
   pub quote : Option Quote
 
--- the market of a matcher, by what its terms and its priority mean
+-- The market of a matcher, by what its terms and its priority mean. The clauses hand these in: a model of the matcher with the
+-- market as its value is refused, since functions have no code.
 abbrev pub market_of : {P T : Type 0} → (T → Order → Order → Option Quote → Lot → Option ℕ) → (P → Order → Candidate → Candidate → Bool) → Matcher P T → Market
 market_of deals before m = record {
   deal = λ a r. deals m.terms a r m.quote m.lot;

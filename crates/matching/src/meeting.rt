@@ -29,14 +29,24 @@ pub struct Pair {
     pub meeting: Meeting,
 }
 
+impl Pair {
+    // The time of a pair is that of its active order.
+    pub(crate) fn stamp(&self) -> u32
+        ensures { result ≡ self.now.meeting.active.stamp }
+    {
+        self.meeting.active.stamp
+    }
+}
+
 // The row with some shares fewer; a cleared one where none is left.
 fn less(row: &Row, by: u32) -> Row
     ensures { result ≡ lessened row.now by }
 {
     if by < row.left {
-        let mut rest = *row;
-        rest.left = row.left - by;
-        rest
+        Row {
+            left: row.left - by,
+            ..*row
+        }
     } else {
         Row::cleared()
     }
@@ -44,7 +54,7 @@ fn less(row: &Row, by: u32) -> Row
 
 impl Meeting {
     // The shares that the two trade: the fewer of what they have left.
-    pub(crate) fn shares(&self) -> u32
+    fn shares(&self) -> u32
         ensures { result ≡ shares self.now }
     {
         self.active.left.min(self.found.candidate.order.left)
@@ -53,25 +63,18 @@ impl Meeting {
     pub(crate) fn fill(&self) -> Fill
         ensures { result ≡ fill_of self.now }
     {
-        let shares = self.shares();
-        let price = self.found.candidate.price;
         let active = self.active.number;
         let passive = self.found.candidate.order.number;
-        match self.active.side {
-            Side::Buy => Fill {
-                buyer: active,
-                seller: passive,
-                price,
-                shares,
-                active: Side::Buy,
-            },
-            Side::Sell => Fill {
-                buyer: passive,
-                seller: active,
-                price,
-                shares,
-                active: Side::Sell,
-            },
+        let (buyer, seller) = match self.active.side {
+            Side::Buy => (active, passive),
+            Side::Sell => (passive, active),
+        };
+        Fill {
+            buyer,
+            seller,
+            price: self.found.candidate.price,
+            shares: self.shares(),
+            active: self.active.side,
         }
     }
 
@@ -79,13 +82,13 @@ impl Meeting {
     pub(crate) fn left_active(&self) -> Row
         ensures { result ≡ left_active self.now }
     {
-        less(&self.active.row(), self.shares())
+        less(&self.active.into(), self.shares())
     }
 
     // The resting order's row after the trade.
     pub(crate) fn left_passive(&self) -> Row
         ensures { result ≡ left_passive self.now }
     {
-        less(&self.found.candidate.order.row(), self.shares())
+        less(&self.found.candidate.order.into(), self.shares())
     }
 }

@@ -1,9 +1,12 @@
 -- The row of an order decodes to that order, and a row decodes just when every field is in its range.
-use Rattle.std.proofs.Common.{◌≡◌, ℕ, Bool, true, false, ◌&&◌, ◌||◌, eqb, leb, is_some, IfSome, Some, None, Option, refl, ap, ◌∙◌, arith}
+use Rattle.std.proofs.Common.{◌≡◌, ℕ, Bool, true, false, ◌&&◌, ◌||◌, eqb, leb, is_some, IfSome, Some, None, Option, Ok, Err, Result, refl, ap, ◌∙◌, arith}
 use mathlib.Core.Bool.{Bool-set}
 use Rattle.std.proofs.lemmas.Bool.{both_ways}
 use Rattle.std.proofs.lemmas.Bool.Decides.{nat_tests}
-use Rattle.orders.specs.Codes.{side_code, kind_code, mark_code, hidden_code, side_of, kind_of, mark_of, hidden_of}
+use Rattle.std.specs.Result.{result_ok}
+use Rattle.std.proofs.lemmas.Option.{none-some}
+use Rattle.orders.specs.declared.code.UnknownCode.{UnknownCode}
+use Rattle.orders.specs.Codes.{Decodes, side_code, kind_code, mark_code, hidden_code, side_of, kind_of, mark_of, hidden_of}
 use Rattle.orders.specs.Ranges.{order_fits, kind_fits, plain_fits}
 use Rattle.orders.specs.Rows.{row_of, order_of, fits_as, ordered, decoded, kind_numbers_fit, row_fits}
 use Rattle.orders.specs.declared.side.Side.{Side}
@@ -61,6 +64,11 @@ mark_code_lem n Jitney e = grind (arith, nat_tests)
 hidden_code_lem : (n : ℕ) (h : Bool) → hidden_of n ≡ Some h → n ≡ hidden_code h
 hidden_code_lem n true e = grind (arith, nat_tests)
 hidden_code_lem n false e = grind (arith, nat_tests)
+
+-- what a number that was read gives, where the error of another is let go
+pub decoded_ok : {A : Type 0} (code : A → ℕ) (decode : ℕ → Option A) (n : ℕ) (r : Result A UnknownCode) (x : A) → Decodes code decode n r → result_ok r ≡ Some x → decode n ≡ Some x
+decoded_ok code decode n (Ok y) x d e = d.0 ∙ e
+decoded_ok code decode n (Err u) x d e = absurd (none-some _ e)
 
 module _ (r : Row) (s : Side) (k : Kind) (m : Mark) (h : Bool) where
   abbrev pub built : fits_as r k h ≡ true → Order

@@ -1,5 +1,6 @@
 -- Every number that stands for a case: of sides, kinds, marks, the hidden mark and refusals.
-use Rattle.std.specs.Prelude.{ℕ, Bool, true, false, cond, Some, None, Option, ◌==◌}
+use Rattle.std.specs.Prelude.{◌≡◌, ℕ, Bool, true, false, cond, Some, None, Option, Result, MatchResult, ◌==◌}
+use Rattle.orders.specs.declared.code.UnknownCode.{UnknownCode}
 use Rattle.orders.specs.declared.side.Side.{Side}
 use Rattle.orders.specs.declared.side.Side.TheVariants.{Buy, Sell}
 use Rattle.orders.specs.declared.kind.Kind.{Kind}
@@ -69,3 +70,11 @@ mark_of n = cond (n == 0) (Some Attributed) (cond (n == 1) (Some Anonymous) (con
 
 abbrev pub hidden_of : ℕ → Option Bool
 hidden_of n = cond (n == 0) (Some false) (cond (n == 1) (Some true) None)
+
+-- the code of a value, from which the value comes back
+abbrev pub Encodes : {A C : Type 0} → (A → C) → (C → Option A) → A → C → Type 0
+Encodes code decode x c = (c ≡ code x) × (decode c ≡ Some x)
+
+-- the case that a number stands for, and whose number it is; or an error with the number, which then stands for none
+abbrev pub Decodes : {A : Type 0} → (A → ℕ) → (ℕ → Option A) → ℕ → Result A UnknownCode → Type 0
+Decodes code decode n r = MatchResult r (λ x. (decode n ≡ Some x) × (code x ≡ n)) (λ e. (decode n ≡ None) × (e.0 ≡ n))

@@ -5,3 +5,4 @@ pub mod Kinds
 pub mod Ranges
 pub mod Rows
 pub mod Quotes
+pub mod Amendments

@@ -1,7 +1,16 @@
 -- What turns on the side of an order.
-use Rattle.std.specs.Prelude.{ℕ, Bool, true, false, nat_le, nat_lt}
+use Rattle.std.specs.Prelude.{ℕ, Bool, true, false, List, codes, nat_le, nat_lt}
 use Rattle.orders.specs.declared.side.Side.{Side}
 use Rattle.orders.specs.declared.side.Side.TheVariants.{Buy, Sell}
+
+-- the word that a session and its listing have for a side
+abbrev pub side_word : Side → List ℕ
+side_word Buy = codes "BUY"
+side_word Sell = codes "SELL"
+
+abbrev pub other : Side → Side
+other Buy = Sell
+other Sell = Buy
 
 abbrev pub opposite : Side → Side → Bool
 opposite Buy Buy = false

@@ -1,25 +1,17 @@
 // A call on a book, and what it gives back.
+use crate::amendment::Amendment;
 use crate::entry::Entry;
 use crate::refusal::Refusal;
 use crate::side::Side;
 
 // What a book can be asked to do, once it is open; the question for an order's shares left changes nothing and is none.
-#[derive(Clone, Copy)]
+#[derive(Clone, Copy, PartialEq, Eq, Debug)]
 pub enum Call {
     Enter(Entry),
-    // new shares left and a limit for the order with this number
-    Amend {
-        number: u32,
-        shares: u32,
-        limit: u32,
-    },
-    Cancel {
-        number: u32,
-    },
-    Quote {
-        bid: u32,
-        offer: u32,
-    },
+    Amend(Amendment),
+    Cancel { number: u32 },
+    // two numbers, until they are judged and make a quote
+    Quote { bid: u32, offer: u32 },
     // removes the quote
     Withdraw,
     Halt,
@@ -28,7 +20,7 @@ pub enum Call {
 }
 
 // A trade of two orders, which are named by their numbers.
-#[derive(Clone, Copy)]
+#[derive(Clone, Copy, PartialEq, Eq, Debug)]
 pub struct Fill {
     pub buyer: u32,
     pub seller: u32,
@@ -38,9 +30,20 @@ pub struct Fill {
     pub active: Side,
 }
 
+impl Fill {
+    // An entry of a list into which no fill is written yet. No `Default`, since no side is one.
+    pub const BLANK: Fill = Fill {
+        buyer: 0,
+        seller: 0,
+        price: 0,
+        shares: 0,
+        active: Side::Buy,
+    };
+}
+
 // What an accepted call did: the order's number, its shares filled, resting and cancelled by the call, and the count of
 // the call's fills. A call without an order has four zeros before the count.
-#[derive(Clone, Copy)]
+#[derive(Clone, Copy, Default, PartialEq, Eq, Debug)]
 pub struct Receipt {
     pub number: u32,
     pub filled: u32,

@@ -35,9 +35,7 @@ fn prices(rt: HostRuntime) -> Result<(), Fail> {
         (4_000_000, 4_000_004, 3_999_996),
     ];
     for (price, above, below) in steps {
-        let Some(price) = Price::new(price) else {
-            return Err(Fail::new("off the grid"));
-        };
+        let price = Price::new(price).ok_or("off the grid")?;
         assert_eq!(rt; price.step_above(), above);
         assert_eq!(rt; price.step_below(), below);
     }
@@ -65,9 +63,7 @@ fn quotes(rt: HostRuntime) -> Result<(), Fail> {
         (4_040, 4_052, 4_046, false),
     ];
     for (bid, offer, middle, narrow) in quotes {
-        let Some(quote) = Quote::new(bid, offer) else {
-            return Err(Fail::new("no quote"));
-        };
+        let quote = Quote::new(bid, offer).ok_or("no quote")?;
         assert_eq!(rt; quote.middle(), middle);
         assert_eq!(rt; quote.is_narrow(), narrow);
         assert_eq!(rt; quote.touch(Side::Buy), offer);
@@ -201,14 +197,12 @@ fn minimum_after_fills(rt: HostRuntime) -> Result<(), Fail> {
         (300, 400, 300),
         (300, 0, 0),
     ] {
-        let Some(order) = Row {
+        let row = Row {
             left,
             minimum,
             ..row(1, 1, 200, 0)
-        }
-        .order() else {
-            return Err(Fail::new("no order"));
         };
+        let order = row.order().ok_or("no order")?;
         assert_eq!(rt; order.minimum_in_force(), expected);
     }
     Ok(())

@@ -1,10 +1,11 @@
-// An entry: the numbers of an order before anything is known of them.
+// An entry: the numbers of an order before anything is known of them. A wrong side, kind or mark meets a refusal, so they
+// are numbers here, and not cases.
 ghost use Rattle.std.specs.Prelude.{◌≡◌};
 ghost use Rattle.orders.specs.Rows.{entry_row};
 
 use crate::row::Row;
 
-#[derive(Clone, Copy)]
+#[derive(Clone, Copy, PartialEq, Eq, Debug)]
 pub struct Entry {
     pub side: u32,
     pub kind: u32,

@@ -1,8 +1,9 @@
 // The eight kinds of order.
-ghost use Rattle.std.specs.Prelude.{◌≡◌, IfSome, Some};
-ghost use Rattle.orders.specs.Codes.{kind_code, kind_of};
+ghost use Rattle.std.specs.Prelude.{◌≡◌};
+ghost use Rattle.orders.specs.Codes.{kind_code, kind_of, Encodes, Decodes};
 ghost use Rattle.orders.specs.Kinds.{rests, limit_fits, minimum_fits, hides};
 
+use crate::code::UnknownCode;
 use crate::price::is_on_grid;
 
 #[derive(Clone, Copy, PartialEq, Eq, Debug)]
@@ -25,12 +26,11 @@ pub enum Kind {
     SeekImprovement,
 }
 
-impl Kind {
-    pub fn code(self) -> u32
-        ensures value { result ≡ kind_code self }
-        ensures back { kind_of result ≡ Some self }
-    {
-        match self {
+impl From<Kind> for u32 {
+    ghost from_gives = { Encodes kind_code kind_of };
+
+    fn from(kind: Kind) -> u32 {
+        match kind {
             Kind::Limit => 1,
             Kind::LimitAtOnce => 2,
             Kind::Market => 3,
@@ -41,33 +41,37 @@ impl Kind {
             Kind::SeekImprovement => 8,
         }
     }
+}
 
-    pub fn from_code(code: u32) -> Option<Kind>
-        ensures value { result ≡ kind_of code }
-        ensures back { IfSome result (λ x. kind_code x ≡ code) }
-    {
+impl TryFrom<u32> for Kind {
+    type Error = UnknownCode;
+
+    ghost try_from_gives = { Decodes kind_code kind_of };
+
+    fn try_from(code: u32) -> Result<Kind, UnknownCode> {
         match code {
-            1 => Some(Kind::Limit),
-            2 => Some(Kind::LimitAtOnce),
-            3 => Some(Kind::Market),
-            4 => Some(Kind::MiddlePeg),
-            5 => Some(Kind::MinimumImprovement),
-            6 => Some(Kind::MinimumEach),
-            7 => Some(Kind::MinimumSum),
-            8 => Some(Kind::SeekImprovement),
-            _ => None,
+            1 => Ok(Kind::Limit),
+            2 => Ok(Kind::LimitAtOnce),
+            3 => Ok(Kind::Market),
+            4 => Ok(Kind::MiddlePeg),
+            5 => Ok(Kind::MinimumImprovement),
+            6 => Ok(Kind::MinimumEach),
+            7 => Ok(Kind::MinimumSum),
+            8 => Ok(Kind::SeekImprovement),
+            _ => Err(UnknownCode(code)),
         }
     }
+}
 
+impl Kind {
     // Whether a remainder of this kind rests; that of any other kind is cancelled.
     pub fn rests(self) -> bool
         ensures { result ≡ rests self }
     {
-        match self {
-            Kind::Limit | Kind::MiddlePeg | Kind::MinimumImprovement => true,
-            Kind::LimitAtOnce | Kind::Market => false,
-            Kind::MinimumEach | Kind::MinimumSum | Kind::SeekImprovement => false,
-        }
+        matches!(
+            self,
+            Kind::Limit | Kind::MiddlePeg | Kind::MinimumImprovement
+        )
     }
 
     // Whether an order of this kind may carry the limit.
@@ -94,9 +98,6 @@ impl Kind {
     pub fn hides(self) -> bool
         ensures { result ≡ hides self }
     {
-        match self {
-            Kind::Limit => true,
-            _ => false,
-        }
+        self == Kind::Limit
     }
 }

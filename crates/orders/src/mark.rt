@@ -1,6 +1,8 @@
 // How an order shows its broker, and whether it shows itself.
-ghost use Rattle.std.specs.Prelude.{◌≡◌, IfSome, Some};
-ghost use Rattle.orders.specs.Codes.{mark_code, mark_of, hidden_code, hidden_of};
+ghost use Rattle.std.specs.Prelude.{◌≡◌};
+ghost use Rattle.orders.specs.Codes.{mark_code, mark_of, hidden_code, hidden_of, Encodes, Decodes};
+
+use crate::code::UnknownCode;
 
 #[derive(Clone, Copy, PartialEq, Eq, Debug)]
 pub enum Mark {
@@ -12,47 +14,40 @@ pub enum Mark {
     Jitney,
 }
 
-impl Mark {
-    pub fn code(self) -> u32
-        ensures value { result ≡ mark_code self }
-        ensures back { mark_of result ≡ Some self }
-    {
-        match self {
+impl From<Mark> for u32 {
+    ghost from_gives = { Encodes mark_code mark_of };
+
+    fn from(mark: Mark) -> u32 {
+        match mark {
             Mark::Attributed => 0,
             Mark::Anonymous => 1,
             Mark::Jitney => 2,
         }
     }
+}
 
-    pub fn from_code(code: u32) -> Option<Mark>
-        ensures value { result ≡ mark_of code }
-        ensures back { IfSome result (λ x. mark_code x ≡ code) }
-    {
+impl TryFrom<u32> for Mark {
+    type Error = UnknownCode;
+
+    ghost try_from_gives = { Decodes mark_code mark_of };
+
+    fn try_from(code: u32) -> Result<Mark, UnknownCode> {
         match code {
-            0 => Some(Mark::Attributed),
-            1 => Some(Mark::Anonymous),
-            2 => Some(Mark::Jitney),
-            _ => None,
+            0 => Ok(Mark::Attributed),
+            1 => Ok(Mark::Anonymous),
+            2 => Ok(Mark::Jitney),
+            _ => Err(UnknownCode(code)),
         }
     }
 }
 
-// The number of the hidden mark.
-pub(crate) fn hidden_code(hidden: bool) -> u32
-    ensures value { result ≡ hidden_code hidden }
-    ensures back { hidden_of result ≡ Some hidden }
-{
-    if hidden { 1 } else { 0 }
-}
-
-// The hidden mark of a number.
-pub(crate) fn hidden_from_code(code: u32) -> Option<bool>
-    ensures value { result ≡ hidden_of code }
-    ensures back { IfSome result (λ x. hidden_code x ≡ code) }
+// The hidden mark of a number. It is a `bool`, which has no `TryFrom` of a number.
+pub(crate) fn hidden_from_code(code: u32) -> Result<bool, UnknownCode>
+    ensures { Decodes hidden_code hidden_of code result }
 {
     match code {
-        0 => Some(false),
-        1 => Some(true),
-        _ => None,
+        0 => Ok(false),
+        1 => Ok(true),
+        _ => Err(UnknownCode(code)),
     }
 }

@@ -34,6 +34,7 @@ pub enum Refusal {
 }
 
 impl Refusal {
+    // A method and no `From`: the number by which a listing names the refusal.
     pub fn number(self) -> u32
         ensures { result ≡ refusal_number self }
     {

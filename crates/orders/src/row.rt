@@ -1,15 +1,16 @@
 // A place of a book as plain numbers, and the order that stands there.
 ghost use Rattle.std.specs.Prelude.{◌≡◌, is_some, IfSome, Some, None};
+ghost use Rattle.orders.specs.Codes.{Encodes};
 ghost use Rattle.orders.specs.Ranges.{shares_fit, broker_fits, stamp_fits, plain_fits, kind_fits};
 ghost use Rattle.orders.specs.Rows.{cleared, row_of, order_of, row_fits, fits_as, in_force};
 
 use crate::kind::Kind;
-use crate::mark::{Mark, hidden_code, hidden_from_code};
+use crate::mark::{Mark, hidden_from_code};
 use crate::order::Order;
 use crate::side::Side;
 
-// A row may hold any numbers; the place is free if they make no order.
-#[derive(Clone, Copy)]
+// A row may hold any numbers, since anybody may write into a place; the place is free if they make no order.
+#[derive(Clone, Copy, Default, PartialEq, Eq, Debug)]
 pub struct Row {
     pub side: u32,
     pub kind: u32,
@@ -24,22 +25,23 @@ pub struct Row {
     pub number: u32,
 }
 
+// Each range has a name of its own, which the definitions have too.
 pub fn shares_fit(shares: u32) -> bool
     ensures { result ≡ shares_fit shares }
 {
-    1 <= shares && shares <= 10_000_000
+    (1..=10_000_000).contains(&shares)
 }
 
 pub fn broker_fits(broker: u32) -> bool
     ensures { result ≡ broker_fits broker }
 {
-    1 <= broker && broker <= 999
+    (1..=999).contains(&broker)
 }
 
 fn stamp_fits(stamp: u32) -> bool
     ensures { result ≡ stamp_fits stamp }
 {
-    1 <= stamp && stamp <= 1_000_000
+    (1..=1_000_000).contains(&stamp)
 }
 
 impl Row {
@@ -48,19 +50,7 @@ impl Row {
         ensures value { result ≡ cleared }
         ensures free { order_of result ≡ None }
     {
-        Row {
-            side: 0,
-            kind: 0,
-            left: 0,
-            size: 0,
-            limit: 0,
-            minimum: 0,
-            broker: 0,
-            mark: 0,
-            hidden: 0,
-            stamp: 0,
-            number: 0,
-        }
+        Row::default()
     }
 
     // The numbers that every kind has alike.
@@ -90,10 +80,10 @@ impl Row {
     fn decoded(&self) -> Option<Order>
         ensures { result ≡ order_of self.now }
     {
-        let side = Side::from_code(self.side)?;
-        let kind = Kind::from_code(self.kind)?;
-        let mark = Mark::from_code(self.mark)?;
-        let hidden = hidden_from_code(self.hidden)?;
+        let side = Side::try_from(self.side).ok()?;
+        let kind = Kind::try_from(self.kind).ok()?;
+        let mark = Mark::try_from(self.mark).ok()?;
+        let hidden = hidden_from_code(self.hidden).ok()?;
         if !self.fits(kind, hidden) {
             return None;
         }
@@ -112,7 +102,7 @@ impl Row {
         })
     }
 
-    // The order that stands in the row, or none where a number is out of its range.
+    // The order that stands in the row, or none where a number is out of its range. It is no `TryFrom`: a free place is no error.
     pub fn order(&self) -> Option<Order>
         ensures value { result ≡ order_of self.now }
         ensures test { is_some result ≡ row_fits self.now }
@@ -122,37 +112,10 @@ impl Row {
     }
 }
 
-impl Order {
-    fn encoded(&self) -> Row
-        ensures { result ≡ row_of self.now }
-    {
-        Row {
-            side: self.side.code(),
-            kind: self.kind.code(),
-            left: self.left,
-            size: self.size,
-            limit: self.limit,
-            minimum: self.minimum,
-            broker: self.broker,
-            mark: self.mark.code(),
-            hidden: hidden_code(self.hidden),
-            stamp: self.stamp,
-            number: self.number,
-        }
-    }
+impl From<Order> for Row {
+    ghost from_gives = { Encodes row_of order_of };
 
-    // The row of the order.
-    pub fn row(&self) -> Row
-        ensures value { result ≡ row_of self.now }
-        ensures back { order_of result ≡ Some self.now }
-    {
-        self.encoded()
-    }
-
-    // The minimum in force: what the order asks of another at least, never more than it has left itself.
-    pub fn minimum_in_force(&self) -> u32
-        ensures { result ≡ in_force self.now }
-    {
-        self.minimum.min(self.left)
+    fn from(order: Order) -> Row {
+        order.encoded()
     }
 }

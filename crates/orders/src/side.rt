@@ -1,7 +1,10 @@
 // The two sides of the market.
-ghost use Rattle.std.specs.Prelude.{◌≡◌, IfSome, Some};
-ghost use Rattle.orders.specs.Codes.{side_code, side_of};
-ghost use Rattle.orders.specs.Sides.{opposite, better, no_worse};
+ghost use Rattle.std.specs.Prelude.{◌≡◌, Some};
+ghost use Rattle.orders.specs.Codes.{side_code, side_of, Encodes, Decodes};
+ghost use Rattle.orders.specs.Sides.{side_word, other, opposite, better, no_worse};
+
+use crate::code::UnknownCode;
+use std::fmt;
 
 #[derive(Clone, Copy, PartialEq, Eq, Debug)]
 pub enum Side {
@@ -9,25 +12,50 @@ pub enum Side {
     Sell,
 }
 
-impl Side {
-    pub fn code(self) -> u32
-        ensures value { result ≡ side_code self }
-        ensures back { side_of result ≡ Some self }
-    {
-        match self {
+impl From<Side> for u32 {
+    ghost from_gives = { Encodes side_code side_of };
+
+    fn from(side: Side) -> u32 {
+        match side {
             Side::Buy => 1,
             Side::Sell => 2,
         }
     }
+}
 
-    pub fn from_code(code: u32) -> Option<Side>
-        ensures value { result ≡ side_of code }
-        ensures back { IfSome result (λ x. side_code x ≡ code) }
-    {
+impl TryFrom<u32> for Side {
+    type Error = UnknownCode;
+
+    ghost try_from_gives = { Decodes side_code side_of };
+
+    fn try_from(code: u32) -> Result<Side, UnknownCode> {
         match code {
-            1 => Some(Side::Buy),
-            2 => Some(Side::Sell),
-            _ => None,
+            1 => Ok(Side::Buy),
+            2 => Ok(Side::Sell),
+            _ => Err(UnknownCode(code)),
+        }
+    }
+}
+
+// The word that a session and its listing have for a side.
+impl fmt::Display for Side {
+    ghost output = { λ side. Some (side_word side) };
+
+    fn fmt<W: fmt::Write>(&self, f: &mut fmt::Formatter<W>) -> fmt::Result {
+        f.write_str(match self {
+            Side::Buy => "BUY",
+            Side::Sell => "SELL",
+        })
+    }
+}
+
+impl Side {
+    pub fn other(self) -> Side
+        ensures { result ≡ other self }
+    {
+        match self {
+            Side::Buy => Side::Sell,
+            Side::Sell => Side::Buy,
         }
     }
 

@@ -1,5 +1,4 @@
 pub mod Phases
 pub mod Shifts
 pub mod Places
-pub mod Amendments
 pub mod Remainders

@@ -1,28 +1,23 @@
 -- What lies where in the places.
-use Rattle.std.specs.Prelude.{ℕ, suc, Bool, cond, not, ◌&&◌, List, [], ◌∷◌, length, get_or, is_some, Some, None, Ok, Err, Option, Result, ◌==◌, nat_lt, slice_index_or, slice_set}
+use Rattle.std.specs.Prelude.{ℕ, Bool, cond, not, ◌&&◌, List, length, get_or, position, is_some, Some, None, Ok, Err, Option, Result, ◌==◌, nat_lt, slice_index_or, slice_set}
 use Rattle.orders.specs.declared.refusal.Refusal.{Refusal}
 use Rattle.orders.specs.declared.refusal.Refusal.TheVariants.{NotResting}
 use Rattle.orders.specs.Rows.{order_of, cleared}
 use Rattle.orders.specs.declared.row.Row.{Row}
-
--- the first place, from place i on, whose row passes a test
-abbrev pub place_from : (Row → Bool) → ℕ → List Row → Option ℕ
-place_from test i [] = None
-place_from test i (r ∷ rs) = cond (test r) (Some i) (place_from test (suc i) rs)
 
 abbrev pub is_free : Row → Bool
 is_free r = not (is_some (order_of r))
 
 -- the lowest place that holds no order
 abbrev pub free_place : List Row → Option ℕ
-free_place rows = place_from is_free 0 rows
+free_place rows = position is_free rows
 
 abbrev pub holds_number : (number : ℕ) → Row → Bool
 holds_number n r = is_some (order_of r) && r.number == n
 
 -- the lowest place that holds the order of this number
 abbrev pub place_of : (number : ℕ) → List Row → Option ℕ
-place_of n rows = place_from (holds_number n) 0 rows
+place_of n rows = position (holds_number n) rows
 
 abbrev pub look_up : (place : Option ℕ) → Result ℕ Refusal
 look_up None = Err NotResting

@@ -5,7 +5,7 @@ ghost use Rattle.places.specs.Shifts.{shift_cause};
 
 use orders::refusal::Refusal;
 
-#[derive(Clone, Copy)]
+#[derive(Clone, Copy, PartialEq, Eq, Debug)]
 pub enum Phase {
     Open,
     // calls are taken, and nothing trades
@@ -15,7 +15,7 @@ pub enum Phase {
 }
 
 // What changes the phase.
-#[derive(Clone, Copy)]
+#[derive(Clone, Copy, PartialEq, Eq, Debug)]
 pub enum Event {
     Halt,
     Resume,
@@ -40,30 +40,22 @@ impl Phase {
         Ok(())
     }
 
+    // The three tests have the names that the definitions have; a comparison at each use would read no better.
     pub fn is_open(self) -> bool
         ensures { result ≡ is_open self }
     {
-        match self {
-            Phase::Open => true,
-            Phase::Halted | Phase::Closed => false,
-        }
+        self == Phase::Open
     }
 
     pub fn is_halted(self) -> bool
         ensures { result ≡ is_halted self }
     {
-        match self {
-            Phase::Halted => true,
-            Phase::Open | Phase::Closed => false,
-        }
+        self == Phase::Halted
     }
 
     pub fn is_closed(self) -> bool
         ensures { result ≡ is_closed self }
     {
-        match self {
-            Phase::Closed => true,
-            Phase::Open | Phase::Halted => false,
-        }
+        self == Phase::Closed
     }
 }

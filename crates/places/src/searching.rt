@@ -1,5 +1,5 @@
 // What lies where in the places.
-ghost use Rattle.std.specs.Prelude.{◌≡◌, is_some};
+ghost use Rattle.std.specs.Prelude.{◌≡◌, ◌<◌, true, is_some, length, IfOk};
 ghost use Rattle.orders.specs.Rows.{order_of};
 ghost use Rattle.places.specs.Places.{is_free, free_place, holds_number, place_of, look_up, row_at, placed, left_at};
 
@@ -22,12 +22,7 @@ fn is_free(row: &Row) -> bool
 pub fn free_place(places: &[Row]) -> Option<usize>
     ensures { result ≡ free_place places.now }
 {
-    for (i, row) in places.iter().enumerate() {
-        if is_free(row) {
-            return Some(i);
-        }
-    }
-    None
+    places.iter().position(is_free)
 }
 
 // Whether the order of this number lies in the row.
@@ -41,17 +36,14 @@ fn holds_number(row: &Row, number: u32) -> bool
 pub fn place_of(number: u32, places: &[Row]) -> Option<usize>
     ensures { result ≡ place_of number places.now }
 {
-    for (i, row) in places.iter().enumerate() {
-        if holds_number(row, number) {
-            return Some(i);
-        }
-    }
-    None
+    places.iter().position(|row| holds_number(row, number))
 }
 
 // The place of the order with this number, which amendments, cancels and questions name.
 pub fn look_up(number: u32, places: &[Row]) -> Result<usize, Refusal>
-    ensures { result ≡ look_up (place_of number places.now) }
+    ensures value { result ≡ look_up (place_of number places.now) }
+    ensures found { IfOk result (λ place. place_of number places.now ≡ Some place) }
+    ensures within { IfOk result (λ place. place < length places.now) }
 {
     let Some(place) = place_of(number, places) else {
         return Err(Refusal::NotResting);
@@ -63,38 +55,26 @@ pub fn look_up(number: u32, places: &[Row]) -> Result<usize, Refusal>
 pub fn row_at(places: &[Row], place: Option<usize>) -> Row
     ensures { result ≡ row_at place places.now }
 {
-    let Some(i) = place else {
-        return Row::cleared();
-    };
-    if i < places.len() {
-        places[i]
-    } else {
-        Row::cleared()
-    }
+    place
+        .and_then(|i| places.get(i))
+        .copied()
+        .unwrap_or_default()
 }
 
-// Writes a row into a place, if it stays.
-pub fn put(places: &mut [Row], place: Option<usize>, stays: bool, row: &Row)
-    ensures { places.new ≡ placed place stays row.now places.old }
+// Writes a row into a place, if there is one.
+pub fn put(places: &mut [Row], place: Option<usize>, row: &Row)
+    ensures { places.new ≡ placed place true row.now places.old }
 {
-    let Some(i) = place else {
-        return;
-    };
-    if stays && i < places.len() {
+    if let Some(i) = place
+        && i < places.len()
+    {
         places[i] = *row;
     }
 }
 
-// The shares left in a place, of an order that stayed there.
-pub fn left_at(places: &[Row], place: Option<usize>, stays: bool) -> u32
-    ensures { result ≡ left_at place stays places.now }
+// The shares left in a place.
+pub fn left_at(places: &[Row], place: Option<usize>) -> u32
+    ensures { result ≡ left_at place true places.now }
 {
-    let Some(i) = place else {
-        return 0;
-    };
-    if stays && i < places.len() {
-        places[i].left
-    } else {
-        0
-    }
+    row_at(places, place).left
 }

@@ -4,12 +4,13 @@
 mod printing;
 
 use printing::Printer;
+use reader::fault::LONGEST_TEXT;
 use session::text::play_text;
 use std::io;
 use std::io::Read;
 
 // No more is read than shows that a text is too long.
-const READ: u64 = 65_537;
+const READ: u64 = LONGEST_TEXT as u64 + 1;
 
 fn run(rt: &HostRuntime) -> io::Result<()> {
     let mut text = Vec::new(rt.alloc());

@@ -26,8 +26,7 @@ impl<'a> Printer<'a> {
     pub(crate) fn finish(self) -> io::Result<()>
         ensures { result ≡ self.entry.printed }
     {
-        let Printer { rt: _, printed } = self;
-        printed
+        self.printed
     }
 }
 
@@ -41,6 +40,7 @@ impl Sink for Printer<'_> {
     }
 }
 
+// One write for a whole line, which `print!` would hand out in pieces.
 fn print_line(rt: &HostRuntime, line: &Line) -> io::Result<()> {
     let bytes = line.to_string(rt.alloc())?;
     rt.write_all(bytes.as_bytes())

@@ -1,5 +1,5 @@
 -- The two priorities of the market.
-use Rattle.std.specs.Prelude.{ℕ, Bool, cond, not, ◌&&◌, ◌||◌, ◌==◌, nat_le, nat_lt}
+use Rattle.std.specs.Prelude.{◌≡◌, ℕ, Bool, cond, not, ◌&&◌, ◌||◌, ◌==◌, nat_le, nat_lt, refl}
 use Rattle.orders.specs.Codes.{mark_code, hidden_code}
 use Rattle.orders.specs.Sides.{better}
 use Rattle.orders.specs.declared.mark.Mark.TheVariants.{Attributed}
@@ -40,6 +40,10 @@ before_by a x y m n =
     (lower n m
     (nat_lt x.order.stamp y.order.stamp))))
 
+-- the same, where the sizes that count are a function of the orders
+abbrev pub sized_before : (size : Order → ℕ) → (active : Order) → (x y : Candidate) → Bool
+sized_before size a x y = before_by a x y (size x.order) (size y.order)
+
 -- price/broker/time: no size counts
 abbrev pub time_before : (active : Order) → (x y : Candidate) → Bool
 time_before a x y = before_by a x y 0 0
@@ -47,3 +51,10 @@ time_before a x y = before_by a x y 0 0
 -- price/broker/large-size/time: before time a large order goes ahead, and of two the larger
 abbrev pub size_before : (active : Order) → (x y : Candidate) → Bool
 size_before a x y = before_by a x y (large_shares x.order) (large_shares y.order)
+
+-- so the first is where no shares count, and the second where those of a large order do
+pub time_sized : sized_before (λ _. 0) ≡ time_before
+time_sized = refl
+
+pub size_sized : sized_before large_shares ≡ size_before
+size_sized = refl

@@ -2,7 +2,10 @@
 use crate::candidate::Candidate;
 use crate::priority::Priority;
 use crate::ranking::{PriceBrokerSizeTime, PriceBrokerTime};
+use orders::kind::Kind;
+use orders::mark::Mark;
 use orders::row::Row;
+use orders::side::Side;
 use std::test::Fail;
 
 // A resting order, as far as rankings look at it.
@@ -10,68 +13,60 @@ use std::test::Fail;
 struct Bid {
     price: u32,
     left: u32,
-    hidden: u32,
+    hidden: bool,
     broker: u32,
-    mark: u32,
+    mark: Mark,
     stamp: u32,
 }
 
-fn row(side: u32, bid: Bid) -> Row {
-    let Bid {
-        price,
-        left,
-        hidden,
-        broker,
-        mark,
-        stamp,
-    } = bid;
-    Row {
-        side,
-        kind: 1,
-        left,
-        size: left,
-        limit: price,
+// The bid that the others are set beside.
+const OLD: Bid = Bid {
+    price: 240,
+    left: 1_000,
+    hidden: false,
+    broker: 11,
+    mark: Mark::Attributed,
+    stamp: 1,
+};
+
+fn candidate(side: Side, bid: Bid) -> Result<Candidate, Fail> {
+    let row = Row {
+        side: side.into(),
+        kind: Kind::Limit.into(),
+        left: bid.left,
+        size: bid.left,
+        limit: bid.price,
         minimum: 0,
-        broker,
-        mark,
-        hidden,
-        stamp,
-        number: stamp,
-    }
+        broker: bid.broker,
+        mark: bid.mark.into(),
+        hidden: bid.hidden.into(),
+        stamp: bid.stamp,
+        number: bid.stamp,
+    };
+    Ok(Candidate {
+        order: row.order().ok_or("no order")?,
+        price: bid.price,
+    })
 }
 
 // Whether the first bid comes before the second, and the second before the first, for a seller of a mark.
 fn compare<P: Priority>(
     priority: &P,
-    mark: u32,
+    mark: Mark,
     first: Bid,
     second: Bid,
 ) -> Result<(bool, bool), Fail> {
     let seller = Bid {
         price: 200,
         left: 100,
-        hidden: 0,
+        hidden: false,
         broker: 50,
         mark,
         stamp: 99,
     };
-    let Some(active) = row(2, seller).order() else {
-        return Err(Fail::new("no seller"));
-    };
-    let Some(x) = row(1, first).order() else {
-        return Err(Fail::new("no first bid"));
-    };
-    let Some(y) = row(1, second).order() else {
-        return Err(Fail::new("no second bid"));
-    };
-    let x = Candidate {
-        order: x,
-        price: first.price,
-    };
-    let y = Candidate {
-        order: y,
-        price: second.price,
-    };
+    let active = candidate(Side::Sell, seller)?.order;
+    let x = candidate(Side::Buy, first)?;
+    let y = candidate(Side::Buy, second)?;
     Ok((
         priority.precedes(&active, &x, &y),
         priority.precedes(&active, &y, &x),
@@ -80,93 +75,48 @@ fn compare<P: Priority>(
 
 #[test]
 fn both_rankings(rt: HostRuntime) -> Result<(), Fail> {
-    let old = Bid {
-        price: 240,
-        left: 1_000,
-        hidden: 0,
-        broker: 11,
-        mark: 0,
-        stamp: 1,
-    };
-    let young = Bid { stamp: 2, ..old };
+    let old = OLD;
+    let new = Bid { stamp: 2, ..old };
+    let dear = Bid { price: 244, ..new };
+    let ours = Bid { broker: 50, ..new };
     // the younger bid, the seller's mark, and whether the younger comes first
     let pairs = [
-        (young, 0, false),
+        (new, Mark::Attributed, false),
+        (dear, Mark::Attributed, true),
         (
             Bid {
-                price: 244,
-                ..young
+                hidden: true,
+                ..dear
             },
-            0,
+            Mark::Attributed,
             true,
         ),
+        (Bid { price: 236, ..ours }, Mark::Attributed, false),
+        (ours, Mark::Attributed, true),
+        (ours, Mark::Anonymous, false),
+        (ours, Mark::Jitney, false),
         (
             Bid {
-                price: 244,
-                hidden: 1,
-                ..young
+                mark: Mark::Anonymous,
+                ..ours
             },
-            0,
-            true,
-        ),
-        (
-            Bid {
-                price: 236,
-                broker: 50,
-                ..young
-            },
-            0,
+            Mark::Attributed,
             false,
         ),
         (
             Bid {
-                broker: 50,
-                ..young
+                mark: Mark::Jitney,
+                ..ours
             },
-            0,
-            true,
-        ),
-        (
-            Bid {
-                broker: 50,
-                ..young
-            },
-            1,
+            Mark::Attributed,
             false,
         ),
         (
             Bid {
-                broker: 50,
-                ..young
+                hidden: true,
+                ..ours
             },
-            2,
-            false,
-        ),
-        (
-            Bid {
-                broker: 50,
-                mark: 1,
-                ..young
-            },
-            0,
-            false,
-        ),
-        (
-            Bid {
-                broker: 50,
-                mark: 2,
-                ..young
-            },
-            0,
-            false,
-        ),
-        (
-            Bid {
-                broker: 50,
-                hidden: 1,
-                ..young
-            },
-            0,
+            Mark::Attributed,
             false,
         ),
     ];
@@ -177,13 +127,29 @@ fn both_rankings(rt: HostRuntime) -> Result<(), Fail> {
             (first, !first)
         );
     }
-    assert_eq!(rt; compare(&PriceBrokerTime, 0, old, old)?, (false, false));
     assert_eq!(rt;
-        compare(&PriceBrokerSizeTime, 0, old, Bid { left: 900, ..old })?,
+        compare(&PriceBrokerTime, Mark::Attributed, old, old)?,
         (false, false)
     );
     assert_eq!(rt;
-        compare(&PriceBrokerTime, 0, Bid { hidden: 1, ..old }, young)?,
+        compare(
+            &PriceBrokerSizeTime,
+            Mark::Attributed,
+            old,
+            Bid { left: 900, ..old }
+        )?,
+        (false, false)
+    );
+    assert_eq!(rt;
+        compare(
+            &PriceBrokerTime,
+            Mark::Attributed,
+            Bid {
+                hidden: true,
+                ..old
+            },
+            new
+        )?,
         (false, true)
     );
     Ok(())
@@ -191,69 +157,66 @@ fn both_rankings(rt: HostRuntime) -> Result<(), Fail> {
 
 #[test]
 fn large_sizes(rt: HostRuntime) -> Result<(), Fail> {
-    let old = Bid {
-        price: 240,
-        left: 1_000,
-        hidden: 0,
-        broker: 11,
-        mark: 0,
-        stamp: 1,
-    };
+    let old = OLD;
     // the older and the younger bid's shares left, the younger hidden, and whether the younger comes first by size
     let pairs = [
-        (1_000, 29_999, 0, false),
-        (1_000, 30_000, 0, true),
-        (30_000, 30_000, 0, false),
-        (30_000, 30_001, 0, true),
-        (60_000, 50_000, 0, false),
-        (1_000, 10_000_000, 1, false),
+        (1_000, 29_999, false, false),
+        (1_000, 30_000, false, true),
+        (30_000, 30_000, false, false),
+        (30_000, 30_001, false, true),
+        (60_000, 50_000, false, false),
+        (1_000, 10_000_000, true, false),
     ];
     for (left, younger, hidden, first) in pairs {
-        let young = Bid {
+        let new = Bid {
             left: younger,
             hidden,
             stamp: 2,
             ..old
         };
         assert_eq!(rt;
-            compare(&PriceBrokerSizeTime, 0, young, Bid { left, ..old })?,
+            compare(
+                &PriceBrokerSizeTime,
+                Mark::Attributed,
+                new,
+                Bid { left, ..old }
+            )?,
             (first, !first)
         );
         assert_eq!(rt;
-            compare(&PriceBrokerTime, 0, young, Bid { left, ..old })?,
+            compare(&PriceBrokerTime, Mark::Attributed, new, Bid { left, ..old })?,
             (false, true)
         );
     }
+    let large = Bid {
+        left: 90_000,
+        ..old
+    };
     // two hidden ones: neither is large
-    let hidden = Bid { hidden: 1, ..old };
     assert_eq!(rt;
         compare(
             &PriceBrokerSizeTime,
-            0,
+            Mark::Attributed,
             Bid {
-                left: 90_000,
+                hidden: true,
                 stamp: 2,
-                ..hidden
+                ..large
             },
-            hidden,
+            Bid {
+                hidden: true,
+                ..old
+            },
         )?,
         (false, true)
     );
     // the broker comes before the size
+    let ours = Bid {
+        broker: 50,
+        stamp: 2,
+        ..old
+    };
     assert_eq!(rt;
-        compare(
-            &PriceBrokerSizeTime,
-            0,
-            Bid {
-                left: 90_000,
-                ..old
-            },
-            Bid {
-                broker: 50,
-                stamp: 2,
-                ..old
-            },
-        )?,
+        compare(&PriceBrokerSizeTime, Mark::Attributed, large, ours)?,
         (false, true)
     );
     Ok(())

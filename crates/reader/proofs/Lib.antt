@@ -1,4 +1,4 @@
 pub mod Steps
 pub mod Numbers
-pub mod Spacing
 pub mod Parting
+pub mod Spacing

@@ -1,6 +1,5 @@
 -- Numbers, and what `decimal` writes of them.
-use Rattle.std.proofs.Common.{◌≡◌, ℕ, ◌+◌, ◌-◌, ◌*◌, ◌^◌, ◌<◌, ◌≤◌, Bool, true, false, cond, ◌&&◌, ltb, List, [], ◌∷◌, length, get_or, drop, Some, None, decimal, Option, sym, refl, ap, ◌∙◌, ⊎_elim, arith, rules}
-use Rattle.std.proofs.lemmas.List.{at_drop_more, at_drop_all}
+use Rattle.std.proofs.Common.{◌≡◌, ℕ, ◌+◌, ◌-◌, ◌*◌, ◌^◌, ◌<◌, ◌≤◌, Bool, true, ◌&&◌, ltb, List, [], ◌∷◌, length, get_or, Some, None, decimal, Option, sym, refl, ap, ◌∙◌, ⊎_elim, arith, rules}
 use Rattle.std.proofs.lemmas.Bool.{cond-true, cond-false, and_from, and_parts, lt-ltb, ltb-true, cases_Bool, cases_eq}
 use Rattle.std.proofs.lemmas.Str.Parse.{IsNumeralModel, numerals_by_fold}
 use Rattle.std.proofs.lemmas.Fmt.{digits_decimal, digits_value-decimal, decimal-digits_value, decimal_nonempty, decimal_digit, first_decimal}
@@ -9,46 +8,15 @@ use Rattle.std.specs.Str.{all_ascii_digits}
 use Rattle.reader.specs.Numbers.{digit, number_from, number_of, plain}
 
 -- the byte b may follow the number n
-abbrev good : ℕ → ℕ → Bool
+abbrev pub good : ℕ → ℕ → Bool
 good n b = digit b && ltb (10 * n + (b - 48)) (2 ^ 32)
 
-no_some : (n : ℕ) → None ≡ Some n → ⊥
-no_some n e = let z : ◌≡◌ {A = ℕ} 0 1 = cc in omega arith
-
--- one digit is read, and the number is m
-digit_more : (n m b : ℕ) (bs : List ℕ) → Some m ≡ number_from n (b ∷ []) → number_from m bs ≡ number_from n (b ∷ bs)
-digit_more n m b bs =
-    elim (good n b) as (λ v. Some m ≡ cond v (Some (10 * n + (b - 48))) None → number_from m bs ≡ cond v (number_from (10 * n + (b - 48)) bs) None) [
-      | true ↦ λ e. let s : m ≡ 10 * n + (b - 48) = cc in ap (λ k. number_from k bs) s
-      | false ↦ λ e. absurd (no_some m (sym e))
-    ]
-
-digit_none : (n b : ℕ) (bs : List ℕ) → None ≡ number_from n (b ∷ []) → number_from n (b ∷ bs) ≡ None
-digit_none n b bs =
-    elim (good n b) as (λ v. None ≡ cond v (Some (10 * n + (b - 48))) None → cond v (number_from (10 * n + (b - 48)) bs) None ≡ None) [
-      | true ↦ λ e. absurd (no_some _ e)
-      | false ↦ λ e. refl
-    ]
-
--- the turns of `number`
-pub turn_more : (n m i : ℕ) (w : List ℕ) → i < length w → Some m ≡ number_from n (get_or w i 0 ∷ []) → number_from m (drop (i + 1) w) ≡ number_from n (drop i w)
-turn_more n m i w h e = digit_more n m (get_or w i 0) (drop (i + 1) w) e ∙ sym (at_drop_more (number_from n) w i 0 h)
-
-pub turn_none : (n i : ℕ) (w : List ℕ) → i < length w → None ≡ number_from n (get_or w i 0 ∷ []) → number_from n (drop i w) ≡ None
-turn_none n i w h e = at_drop_more (number_from n) w i 0 h ∙ digit_none n (get_or w i 0) (drop (i + 1) w) e
-
-pub refused : (w : List ℕ) → number_from 0 w ≡ None → None ≡ number_of w
-refused w e = elim (plain w) as (λ v. None ≡ cond v (number_from 0 w) None) [ true ↦ sym e | false ↦ refl ]
-
-pub done : (w : List ℕ) (n i : ℕ) → plain w ≡ true → length w ≤ i → number_from n (drop i w) ≡ number_from 0 w → Some n ≡ number_of w
-done w n i p h e = sym (cond-true _ _ _ p ∙ sym e ∙ at_drop_all (number_from n) w i h)
-
 -- the number that digits write after n, however large
-abbrev read_on : ℕ → List ℕ → ℕ
+abbrev pub read_on : ℕ → List ℕ → ℕ
 read_on n [] = n
 read_on n (c ∷ cs) = read_on (10 * n + (c - 48)) cs
 
-own : IsNumeralModel (λ ds. all_ascii_digits ds ≡ true) (read_on 0)
+pub own : IsNumeralModel (λ ds. all_ascii_digits ds ≡ true) (read_on 0)
 own = numerals_by_fold _ (search rules) read_on (search rules)
 
 reads_more : (n : ℕ) (w : List ℕ) → n ≤ read_on n w
@@ -64,7 +32,7 @@ from_digits n m (b ∷ bs) h e =
     let p = and_parts (digit b) (ltb k (2 ^ 32)) t in
     let r = from_digits k m bs (ltb-true k (2 ^ 32) p.1) (sym (cond-true (good n b) (number_from k bs) None t) ∙ e) in
     (and_from _ _ p.0 r.0, r.1, r.2))
-    (λ f. absurd (no_some m (sym (cond-false (good n b) (number_from k bs) None f) ∙ e)))
+    (λ f. let none = sym (cond-false (good n b) (number_from k bs) None f) ∙ e in cc)
     (cases_Bool (good n b))
 
 to_digits : (n : ℕ) (w : List ℕ) → all_ascii_digits w ≡ true → read_on n w < 2 ^ 32 → number_from n w ≡ Some (read_on n w)
@@ -90,7 +58,7 @@ number_from_lem w n e =
     let r = from_digits 0 n w (omega arith) (sym (cond-true (plain w) (number_from 0 w) None t) ∙ e) in
     let v : read_on 0 w < 2 ^ 64 = omega (arith, r.1, r.2) in
     (sym (decimal-digits_value own w r.0 p.0 p.1 v) ∙ ap decimal r.1, r.2))
-    (λ f. absurd (no_some n (sym (cond-false (plain w) (number_from 0 w) None f) ∙ e)))
+    (λ f. let none = sym (cond-false (plain w) (number_from 0 w) None f) ∙ e in cc)
     (cases_Bool (plain w))
 
 one_zero : (n : ℕ) → n < 2 ^ 32 → get_or (decimal n) 0 0 ≡ 48 → length (decimal n) ≡ 1
@@ -102,9 +70,6 @@ number_to n h =
     cond-true (plain (decimal n)) (number_from 0 (decimal n)) None (plain_from (decimal n) (decimal_nonempty n (omega arith)) (one_zero n h))
     ∙ to_digits 0 (decimal n) (digits_decimal own n (omega arith)) (omega arith)
     ∙ ap Some v
-
-pub decimal_digits : (n : ℕ) → n < 2 ^ 32 → all_ascii_digits (decimal n) ≡ true
-decimal_digits n h = digits_decimal own n (omega arith)
 
 -- what `number` answers is the number that the word is written of
 pub written : (w : List ℕ) (r : Option ℕ) → r ≡ number_of w → (n : ℕ) → (r ≡ Some n → (w ≡ decimal n) × (n < 2 ^ 32)) × (w ≡ decimal n → n < 2 ^ 32 → r ≡ Some n)

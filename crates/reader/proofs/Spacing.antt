@@ -1,97 +1,61 @@
 -- Words, and the line that they make with single spaces.
-use Rattle.std.proofs.Common.{◌≡◌, ℕ, suc, ◌^◌, ◌<◌, Bool, true, false, cond, eqb, leb, List, [], ◌∷◌, length, decimal, sym, refl, ap, ◌∙◌, ⊎_elim, arith}
-use Rattle.std.proofs.lemmas.Bool.{cond-true, cond-false, and_parts, leb-true, ne_eqb, eqb-true, eqb-false, cases_Bool}
-use Rattle.std.specs.Str.{all_ascii_digits}
-use Rattle.reader.specs.Lines.{longer}
-use Rattle.reader.specs.Numbers.{digit}
+use Rattle.std.proofs.Common.{◌≡◌, ℕ, suc, ◌^◌, ◌<◌, Bool, true, false, cond, not, eqb, List, [], ◌∷◌, length, decimal, refl, ap, ◌∙◌, arith}
+use Rattle.std.specs.List.{All, AllByRecursion, list_all, slice_split, onto_first}
+use Rattle.std.proofs.lemmas.Bool.{ne_eqb}
+use Rattle.std.proofs.lemmas.Bool.Decides.{nat_tests}
+use Rattle.std.proofs.lemmas.Fmt.{digits_decimal}
+use Rattle.std.proofs.lemmas.List.Elements.{All-weaker, All-from_get_or}
+use Rattle.std.proofs.lemmas.List.Splits.{join_with_byte-slice_split, slice_split_none, slice_split_at}
+use Rattle.std.proofs.lemmas.List.Sums.{AllPass-from_list_all}
+use Rattle.std.proofs.lemmas.Str.Parse.{not_in_digits}
+use Rattle.reader.specs.Lines.{Lacks}
 use Rattle.reader.specs.Words.{space, Piece, piece, pieces, wider, words_of, texts, spaced}
-use Rattle.reader.proofs.Numbers.{decimal_digits}
+use Rattle.reader.proofs.Numbers.{own}
+
+abbrev is_space : ℕ → Bool
+is_space b = eqb b space
 
 -- no byte is a space
 abbrev pub Solid : List ℕ → Type 0
-Solid [] = Unit {0}
-Solid (b ∷ bs) = (b ≡ space → ⊥) × Solid bs
+Solid w = Lacks space w
 
 abbrev pub Solids : List (List ℕ) → Type 0
-Solids [] = Unit {0}
-Solids (w ∷ ws) = Solid w × Solids ws
+Solids ws = AllByRecursion Solid ws
 
-texts_wider : (at b : ℕ) (ps : List Piece) → texts (wider at b ps) ≡ longer b (texts ps)
+texts_wider : (at b : ℕ) (ps : List Piece) → texts (wider at b ps) ≡ onto_first b (texts ps)
 texts_wider at b [] = refl
 texts_wider at b (p ∷ ps) = refl
 
-spaced_longer : (b : ℕ) (ws : List (List ℕ)) → spaced (longer b ws) ≡ b ∷ spaced ws
-spaced_longer b [] = refl
-spaced_longer b (w ∷ []) = refl
-spaced_longer b (w ∷ v ∷ ws) = refl
-
--- there is always a piece
-some_piece : (at : ℕ) (bs : List ℕ) → (p : Piece) × (ps : List Piece) × (pieces at bs ≡ p ∷ ps)
-some_piece at [] = (piece at [], [], refl)
-some_piece at (b ∷ bs) =
-    let q = some_piece (suc at) bs in
-    elim (eqb b space) as (λ v. (p : Piece) × (ps : List Piece) × (cond v (piece at [] ∷ pieces (suc at) bs) (wider at b (pieces (suc at) bs)) ≡ p ∷ ps)) [
-      | true ↦ (piece at [], pieces (suc at) bs, refl)
-      | false ↦ (piece at (b ∷ q.0.bytes), q.1, ap (wider at b) q.2)
+-- the pieces of a line are what the library splits it into
+texts_pieces : (at : ℕ) (bs : List ℕ) → texts (pieces at bs) ≡ slice_split is_space bs
+texts_pieces at [] = refl
+texts_pieces at (b ∷ bs) =
+    let h = texts_pieces (suc at) bs in
+    elim (is_space b) as (λ v. texts (cond v (piece at [] ∷ pieces (suc at) bs) (wider at b (pieces (suc at) bs))) ≡ cond v ([] ∷ slice_split is_space bs) (onto_first b (slice_split is_space bs))) [
+      | true ↦ ap (λ l. [] ∷ l) h
+      | false ↦ texts_wider at b (pieces (suc at) bs) ∙ ap (onto_first b) h
     ]
-
-spaced_empty : (ps : List Piece) (p : Piece) (qs : List Piece) → ps ≡ p ∷ qs → spaced ([] ∷ texts ps) ≡ space ∷ spaced (texts ps)
-spaced_empty [] p qs e = absurd (let z : ◌≡◌ {A = ℕ} 0 1 = cc in omega arith)
-spaced_empty (x ∷ xs) p qs e = refl
-
--- the pieces of a line make it again
-joins : (at : ℕ) (bs : List ℕ) → spaced (texts (pieces at bs)) ≡ bs
-joins at [] = refl
-joins at (b ∷ bs) =
-    let q = some_piece (suc at) bs in
-    let h = joins (suc at) bs in
-    ⊎_elim
-    (λ t. ap (λ ps. spaced (texts ps)) (cond-true (eqb b space) (piece at [] ∷ pieces (suc at) bs) (wider at b (pieces (suc at) bs)) t) ∙ spaced_empty (pieces (suc at) bs) q.0 q.1 q.2 ∙ (λ i. sym (eqb-true b space t) i ∷ h i))
-    (λ f. ap (λ ps. spaced (texts ps)) (cond-false (eqb b space) (piece at [] ∷ pieces (suc at) bs) (wider at b (pieces (suc at) bs)) f) ∙ ap spaced (texts_wider at b (pieces (suc at) bs)) ∙ spaced_longer b (texts (pieces (suc at) bs)) ∙ ap (λ l. b ∷ l) h)
-    (cases_Bool (eqb b space))
 
 pub line_is : (line : List ℕ) → spaced (texts (words_of line)) ≡ line
 line_is [] = refl
-line_is (b ∷ bs) = joins 0 (b ∷ bs)
+line_is (b ∷ bs) = ap spaced (texts_pieces 0 (b ∷ bs)) ∙ join_with_byte-slice_split space (b ∷ bs)
 
-spaced_head : (b : ℕ) (w : List ℕ) (ws : List (List ℕ)) → spaced ((b ∷ w) ∷ ws) ≡ b ∷ spaced (w ∷ ws)
-spaced_head b w [] = refl
-spaced_head b w (v ∷ ws) = refl
+others : (w : List ℕ) → Solid w → All (λ b. is_space b ≡ false) w
+others w s = All-weaker (λ b. b ≡ space → ⊥) (λ b. is_space b ≡ false) (λ b. ne_eqb b space) w s
 
 -- words without spaces come apart again
-parts_head : (w : List ℕ) (ws : List (List ℕ)) → Solid w → ((at : ℕ) → texts (pieces at (spaced ([] ∷ ws))) ≡ [] ∷ ws) → (at : ℕ) → texts (pieces at (spaced (w ∷ ws))) ≡ w ∷ ws
-parts_head [] ws s h at = h at
-parts_head (b ∷ w) ws s h at =
-    ap (λ l. texts (pieces at l)) (spaced_head b w ws)
-    ∙ ap texts (cond-false (eqb b space) (piece at [] ∷ pieces (suc at) (spaced (w ∷ ws))) (wider at b (pieces (suc at) (spaced (w ∷ ws)))) (ne_eqb b space s.0))
-    ∙ texts_wider at b (pieces (suc at) (spaced (w ∷ ws)))
-    ∙ ap (longer b) (parts_head w ws s.1 h (suc at))
-
-parts : (w : List ℕ) (ws : List (List ℕ)) → Solid w → Solids ws → (at : ℕ) → texts (pieces at (spaced (w ∷ ws))) ≡ w ∷ ws
-parts w [] s t = parts_head w [] s (λ at. refl)
-parts w (v ∷ ws) s t = parts_head w (v ∷ ws) s (λ at. ap (λ l. [] ∷ l) (parts v ws t.0 t.1 (suc at)))
+parts : (w : List ℕ) (ws : List (List ℕ)) → Solid w → Solids ws → slice_split is_space (spaced (w ∷ ws)) ≡ w ∷ ws
+parts w [] s t = slice_split_none is_space w (others w s)
+parts w (v ∷ ws) s t = slice_split_at is_space w space (spaced (v ∷ ws)) (others w s) refl ∙ ap (λ l. w ∷ l) (parts v ws t.0 t.1)
 
 pub words_of_lem : (w : List ℕ) (ws : List (List ℕ)) → 0 < length w → Solid w → Solids ws → texts (words_of (spaced (w ∷ ws))) ≡ w ∷ ws
 words_of_lem [] ws h s t = absurd (omega arith)
-words_of_lem (b ∷ w) [] h s t = parts (b ∷ w) [] s t 0
-words_of_lem (b ∷ w) (v ∷ ws) h s t = parts (b ∷ w) (v ∷ ws) s t 0
-
-solid_digits : (w : List ℕ) → all_ascii_digits w ≡ true → Solid w
-solid_digits [] d = tt
-solid_digits (b ∷ bs) d = let p = and_parts (digit b) (all_ascii_digits bs) d in (λ e. let q = and_parts (leb 48 b) (leb b 57) p.0 in omega (arith, leb-true 48 b q.0), solid_digits bs p.1)
+words_of_lem (b ∷ w) [] h s t = texts_pieces 0 (b ∷ w) ∙ parts (b ∷ w) [] s t
+words_of_lem (b ∷ w) (v ∷ ws) h s t = texts_pieces 0 (spaced ((b ∷ w) ∷ v ∷ ws)) ∙ parts (b ∷ w) (v ∷ ws) s t
 
 pub solid_decimal : (n : ℕ) → n < 2 ^ 32 → Solid (decimal n)
-solid_decimal n h = solid_digits (decimal n) (decimal_digits n h)
+solid_decimal n h = All-from_get_or (λ b. b ≡ space → ⊥) (decimal n) 0 (not_in_digits own (decimal n) space (digits_decimal own n (omega arith)) (λ r. omega (arith, r)))
 
--- the test for it, which computes for a word that is written out
-abbrev pub solid : List ℕ → Bool
-solid [] = true
-solid (b ∷ bs) = cond (eqb b space) false (solid bs)
-
-pub solid_true : (w : List ℕ) → solid w ≡ true → Solid w
-solid_true [] e = tt
-solid_true (b ∷ bs) e =
-    ⊎_elim
-    (λ t. absurd (let k = sym (cond-true (eqb b space) false (solid bs) t) ∙ e in let z : ◌≡◌ {A = ℕ} 0 1 = cc in omega arith))
-    (λ f. (eqb-false b space f, solid_true bs (sym (cond-false (eqb b space) false (solid bs) f) ∙ e)))
-    (cases_Bool (eqb b space))
+-- a test for it, which computes for a word that is written out
+pub solid_true : (w : List ℕ) → list_all (λ b. not (is_space b)) w ≡ true → Solid w
+solid_true w e = All-weaker (λ b. not (is_space b) ≡ true) (λ b. b ≡ space → ⊥) (λ b t e. grind (arith, nat_tests)) w (AllPass-from_list_all (λ b. not (is_space b)) w e)

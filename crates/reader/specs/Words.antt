@@ -1,5 +1,6 @@
 -- The words of a line, with their places.
-use Rattle.std.specs.Prelude.{ℕ, suc, Bool, cond, List, [], ◌∷◌, ◌++◌, length, drop, Some, None, Option, ◌==◌}
+use Rattle.std.specs.Prelude.{ℕ, suc, cond, List, [], ◌∷◌, length, drop, map, Some, None, Option, ◌==◌}
+use Rattle.std.specs.List.{join_with_byte}
 use Rattle.reader.specs.Numbers.{number_of}
 
 -- the byte that parts words
@@ -29,9 +30,10 @@ abbrev pub words_of : List ℕ → List Piece
 words_of [] = []
 words_of (b ∷ bs) = pieces 0 (b ∷ bs)
 
--- the words that begin at place at or after it, if there are more
-abbrev pub words_from : List ℕ → (at : ℕ) → (more : Bool) → List Piece
-words_from line at more = cond more (pieces at (drop at line)) []
+-- the words of a line from the next on, which begins at place at, if there is one
+abbrev pub words_from : List ℕ → (next : Option ℕ) → List Piece
+words_from line None = []
+words_from line (Some at) = pieces at (drop at line)
 
 -- what stands next: a number, another word, or the line's end, with their places
 pub data Tok : Type 0 where
@@ -55,13 +57,9 @@ token_in last (p ∷ ps) = named (number_of p.bytes) p
 abbrev pub token : Rest → Tok
 token r = token_in r.last r.todo
 
-abbrev pub others : List Piece → List Piece
-others [] = []
-others (p ∷ ps) = ps
-
 -- past what stands next
 abbrev pub onward : Rest → Rest
-onward r = record { last = r.last; todo = others r.todo }
+onward r = record { last = r.last; todo = drop 1 r.todo }
 
 -- a line before its first word
 abbrev pub whole : List ℕ → Rest
@@ -69,11 +67,8 @@ whole line = record { last = length line; todo = words_of line }
 
 -- the bytes of words, without their places
 abbrev pub texts : List Piece → List (List ℕ)
-texts [] = []
-texts (p ∷ ps) = p.bytes ∷ texts ps
+texts ps = map (λ p. p.bytes) ps
 
 -- words with single spaces between them
 abbrev pub spaced : List (List ℕ) → List ℕ
-spaced [] = []
-spaced (w ∷ []) = w
-spaced (w ∷ v ∷ ws) = w ++ (space ∷ spaced (v ∷ ws))
+spaced ws = join_with_byte space ws

@@ -2,6 +2,12 @@
 ghost use Rattle.std.specs.Prelude.{◌≡◌};
 ghost use Rattle.reader.specs.Faults.{fault_number, fault_byte};
 
+// The most bytes of a text.
+pub const LONGEST_TEXT: usize = 65_536;
+
+// The most bytes of a line, its end apart.
+pub const LONGEST_LINE: usize = 120;
+
 #[derive(Clone, Copy, PartialEq, Eq, Debug)]
 pub enum TextFault {
     // the text has more than 65,536 bytes
@@ -12,7 +18,9 @@ pub enum TextFault {
     Word(usize),
 }
 
+// A listing has two numbers of a fault, so neither is its conversion.
 impl TextFault {
+    // The number that a listing names.
     pub fn number(self) -> u32
         ensures { result ≡ fault_number self }
     {
@@ -27,8 +35,8 @@ impl TextFault {
         ensures { result ≡ fault_byte self }
     {
         match self {
-            TextFault::LongText => 65_536,
-            TextFault::LongLine => 120,
+            TextFault::LongText => LONGEST_TEXT,
+            TextFault::LongLine => LONGEST_LINE,
             TextFault::Word(at) => at,
         }
     }

@@ -3,6 +3,7 @@
 #![tactic(auto)]
 
 pub mod fault;
-mod reading;
+mod number;
+mod part;
 pub mod text;
 pub mod words;

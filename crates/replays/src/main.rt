@@ -14,71 +14,73 @@ use keeping::keep_dark_day;
 use orders::call::Fill;
 use orders::refusal::Refusal;
 use orders::row::Row;
-use orders::side::Side;
-use printer::Printer;
+use printer::{Printer, print_refusal};
 use priority::priority::Priority;
 use priority::ranking::{PriceBrokerSizeTime, PriceBrokerTime};
 use terms::dark::Dark;
 use terms::lit::Lit;
 use terms::terms::Terms;
-use words::refusal_words;
-
-fn no_fill() -> Fill {
-    Fill {
-        buyer: 0,
-        seller: 0,
-        price: 0,
-        shares: 0,
-        active: Side::Buy,
-    }
-}
 
 fn print_opening(rt: &HostRuntime, opened: Result<(), Refusal>) -> anyhow::Result<()> {
-    if let Err(refusal) = opened {
-        let number = refusal.number();
-        let words = refusal_words(refusal);
-        println!(rt; "   refused with {number}: {words}")?;
+    match opened {
+        Ok(()) => Ok(()),
+        Err(refusal) => print_refusal(rt, refusal),
     }
-    Ok(())
 }
 
-// Replays a day in a book of six places, and prints it.
-fn replay_day<P: Priority + Drop, T: Terms + Drop>(
-    rt: &HostRuntime,
+// A book that days are replayed in, and how it is told of.
+#[derive(Clone, Copy)]
+struct Setting<P, T> {
+    book: &'static str,
+    ranking: &'static str,
     priority: P,
     terms: T,
-    last: u32,
-    items: &[Item],
-) -> anyhow::Result<()> {
-    let mut places = [Row::cleared(); 6];
-    let mut fills = [no_fill(); 6];
-    let mut printer = Printer::new(rt.clone()?);
-    let opened = replay(
-        priority,
-        terms,
-        last,
-        &mut places,
-        &mut fills,
-        items,
-        &mut printer,
-    );
-    printer.outcome()?;
-    print_opening(rt, opened)
 }
 
-fn replay_dark(rt: &HostRuntime, last: u32, items: &[Item]) -> anyhow::Result<()> {
-    println!(rt; "A dark book, last sale {last}, ranked by price, broker and time")?;
-    replay_day(rt, PriceBrokerTime, Dark, last, items)
-}
+const DARK: Setting<PriceBrokerTime, Dark> = Setting {
+    book: "dark",
+    ranking: "price, broker and time",
+    priority: PriceBrokerTime,
+    terms: Dark,
+};
 
-fn replay_lit(rt: &HostRuntime, last: u32, items: &[Item]) -> anyhow::Result<()> {
-    println!(rt; "A lit book, last sale {last}, ranked by price, broker, large size and time")?;
-    replay_day(rt, PriceBrokerSizeTime, Lit, last, items)
+const LIT: Setting<PriceBrokerSizeTime, Lit> = Setting {
+    book: "lit",
+    ranking: "price, broker, large size and time",
+    priority: PriceBrokerSizeTime,
+    terms: Lit,
+};
+
+impl<P: Priority + Drop, T: Terms + Drop> Setting<P, T> {
+    // Replays a day in a book of six places, and prints it.
+    fn replay(self, rt: &HostRuntime, last: u32, items: &[Item]) -> anyhow::Result<()> {
+        let Setting {
+            book,
+            ranking,
+            priority,
+            terms,
+        } = self;
+        println!(rt; "A {book} book, last sale {last}, ranked by {ranking}")?;
+        let mut places = [Row::cleared(); 6];
+        let mut fills = [Fill::BLANK; 6];
+        let mut printer = Printer::new(rt.clone()?);
+        let opened = replay(
+            priority,
+            terms,
+            last,
+            &mut places,
+            &mut fills,
+            items,
+            &mut printer,
+        );
+        printer.outcome()?;
+        print_opening(rt, opened)
+    }
 }
 
 fn keep_dark(rt: &HostRuntime, last: u32, items: &[Item]) -> anyhow::Result<()> {
     let mut places = [Row::cleared(); 6];
-    let mut fills = [no_fill(); 6];
+    let mut fills = [Fill::BLANK; 6];
     let mut keeper = Keeper::new(rt.alloc());
     let opened = keep_dark_day(last, &mut places, &mut fills, items, &mut keeper);
     print_opening(rt, opened)?;
@@ -90,9 +92,9 @@ fn keep_dark(rt: &HostRuntime, last: u32, items: &[Item]) -> anyhow::Result<()> 
 
 fn run(rt: &HostRuntime) -> anyhow::Result<()> {
     let dark = days::dark();
-    replay_dark(rt, 4_040, &dark)?;
-    replay_lit(rt, 240, &days::lit())?;
-    replay_lit(rt, 0, &days::lit())?;
+    DARK.replay(rt, 4_040, &dark)?;
+    LIT.replay(rt, 240, &days::lit())?;
+    LIT.replay(rt, 0, &days::lit())?;
     keep_dark(rt, 4_040, &dark)
 }
 

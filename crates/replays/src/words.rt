@@ -1,41 +1,42 @@
-// The market's numbers in words.
+// The market's cases in words. Functions, since these are types of other crates, for which no `Display` can be written here.
+use orders::kind::Kind;
+use orders::mark::Mark;
 use orders::refusal::Refusal;
 use orders::side::Side;
 
-// A side, of the numbers that an entry has.
-pub(crate) fn side_word(side: u32) -> &'static str {
-    match side {
-        1 => "buy",
-        2 => "sell",
-        _ => "no side",
+pub(crate) fn side_word(code: u32) -> &'static str {
+    match Side::try_from(code) {
+        Ok(Side::Buy) => "buy",
+        Ok(Side::Sell) => "sell",
+        Err(_) => "no side",
     }
 }
 
-pub(crate) fn kind_word(kind: u32) -> &'static str {
+pub(crate) fn kind_word(kind: Kind) -> &'static str {
     match kind {
-        1 => "limit",
-        2 => "limit at once",
-        3 => "market",
-        4 => "middle peg",
-        5 => "minimum improvement",
-        6 => "minimum for each",
-        7 => "minimum in sum",
-        8 => "seek improvement",
-        _ => "no kind",
+        Kind::Limit => "limit",
+        Kind::LimitAtOnce => "limit at once",
+        Kind::Market => "market",
+        Kind::MiddlePeg => "middle peg",
+        Kind::MinimumImprovement => "minimum improvement",
+        Kind::MinimumEach => "minimum for each",
+        Kind::MinimumSum => "minimum in sum",
+        Kind::SeekImprovement => "seek improvement",
     }
 }
 
-pub(crate) fn mark_word(mark: u32) -> &'static str {
-    match mark {
-        0 => "",
-        1 => ", anonymous",
-        2 => ", jitney",
-        _ => ", no mark",
+pub(crate) fn mark_words(code: u32) -> &'static str {
+    match Mark::try_from(code) {
+        Ok(Mark::Attributed) => "",
+        Ok(Mark::Anonymous) => ", anonymous",
+        Ok(Mark::Jitney) => ", jitney",
+        Err(_) => ", no mark",
     }
 }
 
-pub(crate) fn hidden_word(hidden: u32) -> &'static str {
-    match hidden {
+// A number as it stands: the hidden mark is a bool, which has no TryFrom of a number.
+pub(crate) fn hidden_words(code: u32) -> &'static str {
+    match code {
         0 => "",
         1 => ", hidden",
         _ => ", no hidden mark",

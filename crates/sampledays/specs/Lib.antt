@@ -1,4 +1,3 @@
-pub mod Comparing
 pub mod Playing
 pub mod Writing
 pub mod LitDays

@@ -1,13 +1,12 @@
 -- Days in the lit book at a last sale of 240, where large bids have priority. All trading is at 240.
 use Rattle.std.specs.Prelude.{ℕ, List, [], ◌∷◌, ◌++◌}
 use Rattle.orders.specs.declared.call.Call.{Call}
-use Rattle.orders.specs.declared.call.Call.TheVariants.{Amend}
 use Rattle.orders.specs.declared.refusal.Refusal.TheVariants.{WrongLimit}
 use Rattle.terms.specs.Lit.{lit_deal, lit_verdict}
 use Rattle.priority.specs.Ranking.{size_before}
 use Rattle.book.specs.States.{Rules}
 use Rattle.sampledays.specs.Playing.{Step, Day}
-use Rattle.sampledays.specs.Writing.{buy, sell, sold, gives, rests, fills, meets_refusal}
+use Rattle.sampledays.specs.Writing.{buy, sell, amends, sold, gives, rests, fills, meets_refusal}
 
 abbrev pub lit_by_size : Rules
 lit_by_size = record { deals = lit_deal; verdict = lit_verdict; before = size_before }
@@ -58,7 +57,7 @@ largest =
 -- amended to 30,000 it takes stamp 6 and stands behind the other two large ones, and before the small one
 abbrev pub raised_behind : Day
 raised_behind = lit_day (largest ++ (
-    gives (Amend 2 30000 240) 2 0 30000 0 []
+    gives (amends 2 30000 240) 2 0 30000 0 []
     ∷ fills (sale_at_once 1000) 7 1000 (sold 3 7 240 1000 ∷ [])
     ∷ fills (sale_at_once 115000) 8 115000 (sold 3 8 240 49000 ∷ sold 4 8 240 35000 ∷ sold 2 8 240 30000 ∷ sold 1 8 240 1000 ∷ [])
     ∷ []))
@@ -66,7 +65,7 @@ raised_behind = lit_day (largest ++ (
 -- amended to 55,000 it stands before both
 abbrev pub raised_before : Day
 raised_before = lit_day (largest ++ (
-    gives (Amend 2 55000 240) 2 0 55000 0 []
+    gives (amends 2 55000 240) 2 0 55000 0 []
     ∷ fills (sale_at_once 1000) 7 1000 (sold 2 7 240 1000 ∷ [])
     ∷ fills (sale_at_once 140000) 8 140000 (sold 2 8 240 54000 ∷ sold 3 8 240 50000 ∷ sold 4 8 240 35000 ∷ sold 1 8 240 1000 ∷ [])
     ∷ []))

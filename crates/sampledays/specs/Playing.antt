@@ -1,5 +1,5 @@
 -- A day: calls with what they shall come to, played by the definitions of the calls.
-use Rattle.std.specs.Prelude.{ℕ, Bool, true, ◌&&◌, List, [], ◌∷◌, length, replicate, Result}
+use Rattle.std.specs.Prelude.{◌≡◌, ℕ, List, [], ◌∷◌, length, map, replicate, Result}
 use Rattle.orders.specs.Rows.{cleared}
 use Rattle.orders.specs.declared.call.Call.{Call}
 use Rattle.orders.specs.declared.call.Fill.{Fill}
@@ -8,7 +8,6 @@ use Rattle.orders.specs.declared.refusal.Refusal.{Refusal}
 use Rattle.orders.specs.declared.row.Row.{Row}
 use Rattle.book.specs.States.{State, Rules, opened}
 use Rattle.book.specs.Calls.{After, answer}
-use Rattle.sampledays.specs.Comparing.{same_reply, same_fills}
 
 -- a call, and the reply and the fills that it shall have
 pub record Step : Type 0 where
@@ -23,22 +22,19 @@ pub record Day : Type 0 where
   pub places : ℕ
   pub steps : List Step
 
--- what a call came to is what it shall
-abbrev pub meets : Step → After → Bool
-meets t a = same_reply a.reply t.reply && same_fills a.fills t.fills
-
--- the call came to what it shall, and so does what follows on the book and the places that it left
-abbrev pub goes_on_from : Step → (State → List Row → Bool) → After → Bool
-goes_on_from t next a = meets t a && next a.state a.rows
+-- a call that was made, and the steps that follow on the book and the places that it left
+abbrev pub made : Call → (State → List Row → List Step) → After → List Step
+made c next a = record { call = c; reply = a.reply; fills = a.fills } ∷ next a.state a.rows
 
 -- each call is made on what the one before left, with a fill entry for each place
-abbrev pub holds_from : Rules → State → List Row → List Step → Bool
-holds_from u s rows [] = true
-holds_from u s rows (t ∷ ts) = goes_on_from t (λ s' rows'. holds_from u s' rows' ts) (answer u s t.call (length rows) rows)
+abbrev pub played_from : Rules → State → List Row → List Call → List Step
+played_from u s rows [] = []
+played_from u s rows (c ∷ cs) = made c (λ s' rows'. played_from u s' rows' cs) (answer u s c (length rows) rows)
 
-abbrev pub day_holds : Day → Bool
-day_holds d = holds_from d.rules (opened d.last d.places) (replicate d.places cleared) d.steps
+-- the calls of a day with what they come to
+abbrev pub played : Day → List Step
+played d = played_from d.rules (opened d.last d.places) (replicate d.places cleared) (map (λ t. t.call) d.steps)
 
-abbrev pub all_days_hold : List Day → Bool
-all_days_hold [] = true
-all_days_hold (d ∷ ds) = day_holds d && all_days_hold ds
+-- every call of these days comes to what it shall
+abbrev pub AllDaysHold : List Day → Type 0
+AllDaysHold ds = map played ds ≡ map (λ d. d.steps) ds

@@ -27,6 +27,9 @@ buy broker kind shares limit minimum = order 1 kind shares limit minimum broker
 abbrev pub sell : (kind shares limit : ℕ) → Call
 sell kind shares limit = order 2 kind shares limit 0 50
 
+abbrev pub amends : (number shares limit : ℕ) → Call
+amends number shares limit = call.Amend (record { number = number; shares = shares; limit = limit })
+
 -- a fill with the buyer active, and one with the seller active
 abbrev pub bought : (buyer seller price shares : ℕ) → Fill
 bought buyer seller price shares = record { buyer = buyer; seller = seller; price = price; shares = shares; active = Buy }

@@ -43,6 +43,4 @@ ASK 4
 ",
 };
 
-pub(crate) fn samples() -> [Sample; 3] {
-    [MET, NOT_MET, SHRUNKEN]
-}
+pub(crate) const SAMPLES: [Sample; 3] = [MET, NOT_MET, SHRUNKEN];

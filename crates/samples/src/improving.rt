@@ -45,6 +45,4 @@ ENTER SELL 3 5100 0 0 50
 ",
 };
 
-pub(crate) fn samples() -> [Sample; 4] {
-    [INSIDE, AT_THE_OFFER, MIDDLE, ABOVE_FIFTY_LOTS]
-}
+pub(crate) const SAMPLES: [Sample; 4] = [INSIDE, AT_THE_OFFER, MIDDLE, ABOVE_FIFTY_LOTS];

@@ -109,15 +109,13 @@ ASK 2
 ",
 };
 
-pub(crate) fn samples() -> [Sample; 8] {
-    [
-        SMALL,
-        LARGE,
-        DEARER,
-        OLDER,
-        YOUNGER,
-        FALLEN,
-        RAISED_BEFORE,
-        RAISED_BEHIND,
-    ]
-}
+pub(crate) const SAMPLES: [Sample; 8] = [
+    SMALL,
+    LARGE,
+    DEARER,
+    OLDER,
+    YOUNGER,
+    FALLEN,
+    RAISED_BEFORE,
+    RAISED_BEHIND,
+];

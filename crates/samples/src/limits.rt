@@ -27,6 +27,4 @@ ENTER BUY 1 500 4000004 0 11
 ",
 };
 
-pub(crate) fn samples() -> [Sample; 2] {
-    [LIT, DARK]
-}
+pub(crate) const SAMPLES: [Sample; 2] = [LIT, DARK];

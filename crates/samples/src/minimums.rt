@@ -17,6 +17,4 @@ ASK 4
 ",
 };
 
-pub(crate) fn samples() -> [Sample; 1] {
-    [MINIMUM]
-}
+pub(crate) const SAMPLES: [Sample; 1] = [MINIMUM];

@@ -33,6 +33,4 @@ ENTER SELL 2 100 4056 0 50
 ",
 };
 
-pub(crate) fn samples() -> [Sample; 2] {
-    [PROBED, FOLLOWING]
-}
+pub(crate) const SAMPLES: [Sample; 2] = [PROBED, FOLLOWING];

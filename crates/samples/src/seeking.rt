@@ -26,6 +26,4 @@ ASK 2
 ",
 };
 
-pub(crate) fn samples() -> [Sample; 2] {
-    [WIDE, NARROW]
-}
+pub(crate) const SAMPLES: [Sample; 2] = [WIDE, NARROW];

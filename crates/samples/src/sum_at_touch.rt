@@ -43,6 +43,4 @@ ENTER BUY 7 10000 4052 6000 50
 ",
 };
 
-pub(crate) fn samples() -> [Sample; 3] {
-    [MET, NOT_MET, SHRUNKEN]
-}
+pub(crate) const SAMPLES: [Sample; 3] = [MET, NOT_MET, SHRUNKEN];

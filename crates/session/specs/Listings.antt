@@ -1,5 +1,5 @@
 -- The listing of a session.
-use Rattle.std.specs.Prelude.{ℕ, ◌+◌, cond, List, [], ◌∷◌, ◌++◌, length, None, Ok, Err, Option, Result, nat_lt}
+use Rattle.std.specs.Prelude.{ℕ, ◌+◌, cond, List, [], ◌∷◌, ◌++◌, length, map, None, Ok, Err, Option, Result, nat_lt}
 use Rattle.orders.specs.declared.call.Fill.{Fill}
 use Rattle.orders.specs.declared.call.Receipt.{Receipt}
 use Rattle.reader.specs.Faults.{longest_text}
@@ -11,7 +11,7 @@ use Rattle.listing.specs.declared.line.Report.TheVariants as report
 use Rattle.session.specs.declared.fault.SessionFault.{SessionFault}
 use Rattle.session.specs.declared.fault.SessionFault.TheVariants.{Text, Refused}
 use Rattle.session.specs.Desks.{Desk}
-use Rattle.session.specs.Plays.{LinePlayed, plays}
+use Rattle.session.specs.Plays.{Played, plays}
 
 abbrev pub listed : (number : ℕ) → Report → Line
 listed n r = record { number = n; report = r }
@@ -23,12 +23,11 @@ result_line n (Err (Refused x)) = listed n (report.Refused x)
 result_line n (Err (Text f)) = listed f.line (report.Bad f.fault)
 
 abbrev pub fill_lines : (number : ℕ) → List Fill → List Line
-fill_lines n [] = []
-fill_lines n (f ∷ fs) = listed n (report.Filled f) ∷ fill_lines n fs
+fill_lines n fs = map (λ f. listed n (report.Filled f)) fs
 
 -- the lines of the listing that one line of the session makes
-abbrev pub line_listing : (number : ℕ) → LinePlayed → List Line
-line_listing n p = result_line n p.result ∷ fill_lines n p.fills
+abbrev pub line_listing : (number : ℕ) → Played SessionFault → List Line
+line_listing n p = result_line n p.reply ∷ fill_lines n p.fills
 
 -- each line on the desk that the one before left
 unfoldable pub listing_from : (number : ℕ) → List (List ℕ) → Option Desk → List Line

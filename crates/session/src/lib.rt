@@ -2,8 +2,5 @@
 #![tactic(auto)]
 
 pub mod fault;
-mod obeying;
-mod opening;
-mod playing;
 pub mod session;
 pub mod text;

@@ -1,6 +1,6 @@
 // Plays a whole text, line by line, into a sink.
 ghost use Rattle.std.specs.Prelude.{◌≡◌, ◌≤◌, length, IfOk, None, string_bytes};
-ghost use Rattle.reader.specs.Seen.{unread};
+ghost use Rattle.reader.specs.Faults.{longest_text};
 ghost use Rattle.listing.specs.Lines.{all_bytes};
 ghost use Rattle.listing.specs.Sinks.{Handed};
 ghost use Rattle.book.specs.Calls.{count_in};
@@ -18,32 +18,16 @@ use reader::text::Reader;
 use std::alloc::{AllocError, Global};
 
 // What is listed of a line that came to this.
-fn result_line(number: usize, res: &Result<Receipt, SessionFault>) -> Line
-    ensures { result ≡ result_line number res.now }
+fn result_line(number: usize, outcome: Result<Receipt, SessionFault>) -> Line
+    ensures { result ≡ result_line number outcome }
 {
-    match *res {
-        Ok(receipt) => Line {
-            number,
-            report: Report::Taken(receipt),
-        },
-        Err(SessionFault::Refused(refusal)) => Line {
-            number,
-            report: Report::Refused(refusal),
-        },
-        Err(SessionFault::Text(fault)) => Line {
-            number: fault.line,
-            report: Report::Bad(fault.fault),
-        },
-    }
-}
-
-fn fill_count(res: &Result<Receipt, SessionFault>) -> usize
-    ensures { result ≡ count_in res.now }
-{
-    match *res {
-        Ok(receipt) => receipt.fills,
-        Err(_) => 0,
-    }
+    let (number, report) = match outcome {
+        Ok(receipt) => (number, Report::Taken(receipt)),
+        Err(SessionFault::Refused(refusal)) => (number, Report::Refused(refusal)),
+        // it says itself which line it stands in
+        Err(SessionFault::Text(fault)) => (fault.line, Report::Bad(fault.fault)),
+    };
+    Line { number, report }
 }
 
 fn list_fills<S: Sink>(number: usize, fills: &[Fill], sink: &mut S)
@@ -63,20 +47,19 @@ fn list_line<S: Sink>(session: &mut Session, number: usize, line: &[u8], sink: &
     ensures handed { Handed S.Sink.writes sink.old (line_listing number (plays number line.now (desk_of session.old))) sink.new }
 {
     let result = session.play(number, line);
-    sink.write_line(&result_line(number, &result));
-    list_fills(number, session.fills(fill_count(&result)), sink);
+    sink.write_line(&result_line(number, result));
+    let count = result.map_or(0, |receipt| receipt.fills);
+    list_fills(number, session.fills(count), sink);
 }
 
 // Plays the lines that are still to be read, each on what the one before left.
-fn list_lines<S: Sink>(mut reader: Reader<'_>, sink: &mut S)
-    requires { length (unread reader) ≤ 65536 }
-    ensures { Handed S.Sink.writes sink.old (listing_from 1 (unread reader.entry) None) sink.new }
+fn list_lines<S: Sink>(lines: Reader<'_>, sink: &mut S)
+    requires { length lines ≤ longest_text }
+    ensures { Handed S.Sink.writes sink.old (listing_from 1 lines.entry None) sink.new }
 {
     let mut session = Session::new();
-    let mut number: usize = 1;
-    while let Some(line) = reader.line() {
-        list_line(&mut session, number, line, sink);
-        number += 1;
+    for (i, line) in lines.enumerate() {
+        list_line(&mut session, i + 1, line, sink);
     }
 }
 

@@ -21,7 +21,7 @@ use orders::side::Side;
 #[derive(Clone, Copy)]
 pub struct Dark;
 
-// One step inside the quote, from the order's own side of it.
+// One step inside the quote, from this side of it.
 fn inside_price(side: Side, quote: &Quote) -> u32
     ensures { result ≡ inside_price side quote.now }
 {
@@ -32,17 +32,19 @@ fn inside_price(side: Side, quote: &Quote) -> u32
     }
 }
 
+// The functions below take the order, the quote and the lot of the deal as `deal` does.
+
 // The price at which a resting order stands, if its kind rests.
-fn standing_price(kind: Kind, side: Side, limit: u32, quote: &Quote) -> Option<u32>
-    ensures { result ≡ standing kind side limit quote.now }
+fn standing_price(resting: &Order, quote: &Quote) -> Option<u32>
+    ensures { result ≡ standing resting.now.kind resting.now.side resting.now.limit quote.now }
 {
-    match kind {
-        Kind::Limit => match side {
-            Side::Buy => Some(limit.min(quote.offer.quarters)),
-            Side::Sell => Some(limit.max(quote.bid.quarters)),
+    match resting.kind {
+        Kind::Limit => match resting.side {
+            Side::Buy => Some(resting.limit.min(quote.offer.quarters)),
+            Side::Sell => Some(resting.limit.max(quote.bid.quarters)),
         },
         Kind::MiddlePeg => Some(quote.middle()),
-        Kind::MinimumImprovement => Some(inside_price(side, quote)),
+        Kind::MinimumImprovement => Some(inside_price(resting.side, quote)),
         Kind::LimitAtOnce
         | Kind::Market
         | Kind::MinimumEach
@@ -52,14 +54,15 @@ fn standing_price(kind: Kind, side: Side, limit: u32, quote: &Quote) -> Option<u
 }
 
 // Whether a price is no worse than the limit that an active order has.
-fn within_limit(kind: Kind, side: Side, limit: u32, quote: &Quote, price: u32) -> bool
-    ensures { result ≡ within_limit kind side limit quote.now price }
+fn within_limit(active: &Order, quote: &Quote, price: u32) -> bool
+    ensures { result ≡ within_limit active.now.kind active.now.side active.now.limit quote.now price }
 {
-    match kind {
+    let side = active.side;
+    match active.kind {
         Kind::Market => true,
         Kind::MiddlePeg => side.is_no_worse(price, quote.middle()),
         Kind::MinimumImprovement => side.is_no_worse(price, inside_price(side, quote)),
-        _ => side.is_no_worse(price, limit),
+        _ => side.is_no_worse(price, active.limit),
     }
 }
 
@@ -67,28 +70,25 @@ fn within_limit(kind: Kind, side: Side, limit: u32, quote: &Quote, price: u32) -
 fn improving_edge(side: Side, quote: &Quote) -> u32
     ensures { result ≡ improving_edge side quote.now }
 {
-    match side {
-        _ if quote.is_narrow() => quote.middle(),
-        Side::Buy => quote.offer.step_below(),
-        Side::Sell => quote.bid.step_above(),
-    }
+    inside_price(side.other(), quote)
 }
 
-// The size test.
-fn passes(side: Side, size: u32, quote: &Quote, lot: Lot) -> bool
-    ensures { result ≡ passes side size quote.now lot }
+// The size test of an active order.
+fn passes(active: &Order, quote: &Quote, lot: Lot) -> bool
+    ensures { result ≡ passes active.now.side active.now.size quote.now lot }
 {
-    size > 50 * lot.shares || u64::from(size) * u64::from(quote.touch(side)) > 40_000_000
+    let size = active.size;
+    size > 50 * lot.shares || u64::from(size) * u64::from(quote.touch(active.side)) > 40_000_000
 }
 
 // The worst price that the kind and size of an active order allow.
-fn edge(kind: Kind, side: Side, size: u32, quote: &Quote, lot: Lot) -> u32
-    ensures { result ≡ edge kind side size quote.now lot }
+fn edge(active: &Order, quote: &Quote, lot: Lot) -> u32
+    ensures { result ≡ edge active.now.kind active.now.side active.now.size quote.now lot }
 {
-    match kind {
-        Kind::SeekImprovement => improving_edge(side, quote),
-        _ if passes(side, size, quote, lot) => quote.touch(side),
-        _ => improving_edge(side, quote),
+    match active.kind {
+        Kind::SeekImprovement => improving_edge(active.side, quote),
+        _ if passes(active, quote, lot) => quote.touch(active.side),
+        _ => improving_edge(active.side, quote),
     }
 }
 
@@ -113,11 +113,8 @@ fn asks(active: &Order, quote: &Quote, price: u32) -> u32
 fn agrees(active: &Order, resting: &Order, quote: &Quote, lot: Lot, price: u32) -> bool
     ensures { result ≡ agrees active.now resting.now quote.now lot price }
 {
-    within_limit(active.kind, active.side, active.limit, quote, price)
-        && active.side.is_no_worse(
-            price,
-            edge(active.kind, active.side, active.size, quote, lot),
-        )
+    within_limit(active, quote, price)
+        && active.side.is_no_worse(price, edge(active, quote, lot))
         && asks(active, quote, price) <= resting.left
         && resting.minimum_in_force() <= active.left
 }
@@ -157,16 +154,12 @@ impl Terms for Dark {
         if !active.side.is_opposite(resting.side) {
             return None;
         }
-        let price = standing_price(resting.kind, resting.side, resting.limit, &quote)?;
-        if agrees(active, resting, &quote, lot, price) {
-            Some(price)
-        } else {
-            None
-        }
+        let price = standing_price(resting, &quote)?;
+        agrees(active, resting, &quote, lot, price).then_some(price)
     }
 
     fn judge(&self, entry: &Entry, lot: Lot) -> Result<(), Rejection> {
-        let Some(kind) = Kind::from_code(entry.kind) else {
+        let Ok(kind) = Kind::try_from(entry.kind) else {
             return Err(Rejection::BadKind);
         };
         let whole = whole_lots(entry.shares, lot);

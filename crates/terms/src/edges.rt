@@ -4,19 +4,17 @@ use crate::lit::Lit;
 use crate::rejection::Rejection;
 use crate::terms::Terms;
 use orders::entry::Entry;
+use orders::kind::Kind;
 use orders::lot::Lot;
 use orders::quote::Quote;
 use orders::row::Row;
+use orders::side::Side;
 use std::test::Fail;
 
-const BUY: u32 = 1;
-
-const SELL: u32 = 2;
-
-fn row(side: u32, kind: u32, left: u32, limit: u32, minimum: u32) -> Row {
+fn row(side: Side, kind: Kind, left: u32, limit: u32, minimum: u32) -> Row {
     Row {
-        side,
-        kind,
+        side: side.into(),
+        kind: kind.into(),
         left,
         size: left,
         limit,
@@ -37,12 +35,8 @@ fn deal<T: Terms>(
     quote: Option<Quote>,
     last: u32,
 ) -> Result<Option<u32>, Fail> {
-    let Some(active) = active.order() else {
-        return Err(Fail::new("the active row is no order"));
-    };
-    let Some(resting) = resting.order() else {
-        return Err(Fail::new("the resting row is no order"));
-    };
+    let active = active.order().ok_or("the active row is no order")?;
+    let resting = resting.order().ok_or("the resting row is no order")?;
     Ok(terms.deal(&active, &resting, quote, Lot::at(last)))
 }
 
@@ -50,22 +44,22 @@ fn deal<T: Terms>(
 fn lit_deals(rt: HostRuntime) -> Result<(), Fail> {
     // the active side, kind and limit, the resting limit, and the price
     let deals = [
-        (SELL, 1, 240, 240, Some(240)),
-        (SELL, 1, 240, 244, Some(244)),
-        (SELL, 1, 244, 240, None),
-        (BUY, 2, 240, 240, Some(240)),
-        (BUY, 2, 240, 236, Some(236)),
-        (BUY, 2, 240, 244, None),
-        (BUY, 3, 0, 4_000_000, Some(4_000_000)),
-        (SELL, 3, 0, 2, Some(2)),
+        (Side::Sell, Kind::Limit, 240, 240, Some(240)),
+        (Side::Sell, Kind::Limit, 240, 244, Some(244)),
+        (Side::Sell, Kind::Limit, 244, 240, None),
+        (Side::Buy, Kind::LimitAtOnce, 240, 240, Some(240)),
+        (Side::Buy, Kind::LimitAtOnce, 240, 236, Some(236)),
+        (Side::Buy, Kind::LimitAtOnce, 240, 244, None),
+        (Side::Buy, Kind::Market, 0, 4_000_000, Some(4_000_000)),
+        (Side::Sell, Kind::Market, 0, 2, Some(2)),
         // a peg that lies in a lit book carries limit 0: active it sells at any price and buys at none
-        (SELL, 4, 0, 2, Some(2)),
-        (SELL, 5, 0, 240, Some(240)),
-        (BUY, 4, 0, 2, None),
-        (BUY, 5, 0, 240, None),
+        (Side::Sell, Kind::MiddlePeg, 0, 2, Some(2)),
+        (Side::Sell, Kind::MinimumImprovement, 0, 240, Some(240)),
+        (Side::Buy, Kind::MiddlePeg, 0, 2, None),
+        (Side::Buy, Kind::MinimumImprovement, 0, 240, None),
     ];
     for (side, kind, limit, other, expected) in deals {
-        let resting = row(if side == BUY { SELL } else { BUY }, 1, 500, other, 0);
+        let resting = row(side.other(), Kind::Limit, 500, other, 0);
         assert_eq!(rt;
             deal(&Lit, row(side, kind, 500, limit, 0), resting, None, 240)?,
             expected
@@ -89,7 +83,7 @@ fn lit_deals(rt: HostRuntime) -> Result<(), Fail> {
             deal(
                 &Lit,
                 row(side, kind, 500, limit, 0),
-                row(side, 1, 500, other, 0),
+                row(side, Kind::Limit, 500, other, 0),
                 None,
                 240,
             )?,
@@ -100,8 +94,8 @@ fn lit_deals(rt: HostRuntime) -> Result<(), Fail> {
     assert_eq!(rt;
         deal(
             &Lit,
-            row(BUY, 3, 500, 0, 0),
-            row(SELL, 4, 500, 0, 0),
+            row(Side::Buy, Kind::Market, 500, 0, 0),
+            row(Side::Sell, Kind::MiddlePeg, 500, 0, 0),
             None,
             240,
         )?,
@@ -114,27 +108,27 @@ fn lit_deals(rt: HostRuntime) -> Result<(), Fail> {
 fn dark_prices(rt: HostRuntime) -> Result<(), Fail> {
     // a large buyer with a high limit against a seller of a kind and limit, under a quote: the standing price
     let offers = [
-        (1, 4_044, 4_040, 4_052, Some(4_044)),
-        (1, 4_036, 4_040, 4_052, Some(4_040)),
-        (1, 4_052, 4_040, 4_052, Some(4_052)),
-        (1, 4_056, 4_040, 4_052, None),
-        (4, 0, 4_040, 4_052, Some(4_046)),
-        (5, 0, 4_040, 4_052, Some(4_048)),
-        (5, 0, 4_040, 4_044, Some(4_042)),
-        (5, 0, 198, 204, Some(200)),
-        (5, 0, 198, 200, Some(199)),
-        (2, 4_044, 4_040, 4_052, None),
-        (6, 4_044, 4_040, 4_052, None),
-        (7, 4_044, 4_040, 4_052, None),
-        (8, 4_044, 4_040, 4_052, None),
-        (3, 0, 4_040, 4_052, None),
+        (Kind::Limit, 4_044, 4_040, 4_052, Some(4_044)),
+        (Kind::Limit, 4_036, 4_040, 4_052, Some(4_040)),
+        (Kind::Limit, 4_052, 4_040, 4_052, Some(4_052)),
+        (Kind::Limit, 4_056, 4_040, 4_052, None),
+        (Kind::MiddlePeg, 0, 4_040, 4_052, Some(4_046)),
+        (Kind::MinimumImprovement, 0, 4_040, 4_052, Some(4_048)),
+        (Kind::MinimumImprovement, 0, 4_040, 4_044, Some(4_042)),
+        (Kind::MinimumImprovement, 0, 198, 204, Some(200)),
+        (Kind::MinimumImprovement, 0, 198, 200, Some(199)),
+        (Kind::LimitAtOnce, 4_044, 4_040, 4_052, None),
+        (Kind::MinimumEach, 4_044, 4_040, 4_052, None),
+        (Kind::MinimumSum, 4_044, 4_040, 4_052, None),
+        (Kind::SeekImprovement, 4_044, 4_040, 4_052, None),
+        (Kind::Market, 0, 4_040, 4_052, None),
     ];
     for (kind, limit, bid, offer, expected) in offers {
-        let seller = row(SELL, kind, 500, limit, 0);
+        let seller = row(Side::Sell, kind, 500, limit, 0);
         assert_eq!(rt;
             deal(
                 &Dark,
-                row(BUY, 3, 60_000, 0, 0),
+                row(Side::Buy, Kind::Market, 60_000, 0, 0),
                 seller,
                 Quote::new(bid, offer),
                 4_040,
@@ -142,7 +136,13 @@ fn dark_prices(rt: HostRuntime) -> Result<(), Fail> {
             expected
         );
         assert_eq!(rt;
-            deal(&Dark, row(BUY, 3, 60_000, 0, 0), seller, None, 4_040)?,
+            deal(
+                &Dark,
+                row(Side::Buy, Kind::Market, 60_000, 0, 0),
+                seller,
+                None,
+                4_040
+            )?,
             None
         );
     }
@@ -150,8 +150,8 @@ fn dark_prices(rt: HostRuntime) -> Result<(), Fail> {
     assert_eq!(rt;
         deal(
             &Dark,
-            row(SELL, 3, 60_000, 0, 0),
-            row(BUY, 1, 100, 4_064, 0),
+            row(Side::Sell, Kind::Market, 60_000, 0, 0),
+            row(Side::Buy, Kind::Limit, 100, 4_064, 0),
             quote,
             4_040,
         )?,
@@ -160,8 +160,8 @@ fn dark_prices(rt: HostRuntime) -> Result<(), Fail> {
     assert_eq!(rt;
         deal(
             &Dark,
-            row(SELL, 3, 60_000, 0, 0),
-            row(BUY, 5, 100, 0, 0),
+            row(Side::Sell, Kind::Market, 60_000, 0, 0),
+            row(Side::Buy, Kind::MinimumImprovement, 100, 0, 0),
             quote,
             4_040,
         )?,
@@ -171,8 +171,8 @@ fn dark_prices(rt: HostRuntime) -> Result<(), Fail> {
     assert_eq!(rt;
         deal(
             &Dark,
-            row(BUY, 4, 60_000, 0, 0),
-            row(SELL, 1, 100, 4_048, 0),
+            row(Side::Buy, Kind::MiddlePeg, 60_000, 0, 0),
+            row(Side::Sell, Kind::Limit, 100, 4_048, 0),
             quote,
             4_040,
         )?,
@@ -181,8 +181,8 @@ fn dark_prices(rt: HostRuntime) -> Result<(), Fail> {
     assert_eq!(rt;
         deal(
             &Dark,
-            row(BUY, 4, 60_000, 0, 0),
-            row(SELL, 1, 100, 4_052, 0),
+            row(Side::Buy, Kind::MiddlePeg, 60_000, 0, 0),
+            row(Side::Sell, Kind::Limit, 100, 4_052, 0),
             quote,
             4_040,
         )?,
@@ -191,8 +191,8 @@ fn dark_prices(rt: HostRuntime) -> Result<(), Fail> {
     assert_eq!(rt;
         deal(
             &Dark,
-            row(BUY, 5, 60_000, 0, 0),
-            row(SELL, 1, 100, 4_044, 0),
+            row(Side::Buy, Kind::MinimumImprovement, 60_000, 0, 0),
+            row(Side::Sell, Kind::Limit, 100, 4_044, 0),
             quote,
             4_040,
         )?,
@@ -201,8 +201,8 @@ fn dark_prices(rt: HostRuntime) -> Result<(), Fail> {
     assert_eq!(rt;
         deal(
             &Dark,
-            row(BUY, 5, 60_000, 0, 0),
-            row(SELL, 4, 100, 0, 0),
+            row(Side::Buy, Kind::MinimumImprovement, 60_000, 0, 0),
+            row(Side::Sell, Kind::MiddlePeg, 100, 0, 0),
             quote,
             4_040,
         )?,
@@ -226,8 +226,8 @@ fn dark_edges(rt: HostRuntime) -> Result<(), Fail> {
         assert_eq!(rt;
             deal(
                 &Dark,
-                row(SELL, 3, size, 0, 0),
-                row(BUY, 1, 100, bid, 0),
+                row(Side::Sell, Kind::Market, size, 0, 0),
+                row(Side::Buy, Kind::Limit, 100, bid, 0),
                 quote,
                 4_040,
             )?,
@@ -236,30 +236,36 @@ fn dark_edges(rt: HostRuntime) -> Result<(), Fail> {
         // what is left does not count, the size does
         let partly = Row {
             left: 100,
-            ..row(SELL, 3, size, 0, 0)
+            ..row(Side::Sell, Kind::Market, size, 0, 0)
         };
         assert_eq!(rt;
-            deal(&Dark, partly, row(BUY, 1, 100, bid, 0), quote, 4_040)?,
+            deal(
+                &Dark,
+                partly,
+                row(Side::Buy, Kind::Limit, 100, bid, 0),
+                quote,
+                4_040
+            )?,
             expected
         );
         // an order that seeks improvement never reaches the touch
         assert_eq!(rt;
             deal(
                 &Dark,
-                row(SELL, 8, size, bid, 0),
-                row(BUY, 1, 100, bid, 0),
+                row(Side::Sell, Kind::SeekImprovement, size, bid, 0),
+                row(Side::Buy, Kind::Limit, 100, bid, 0),
                 quote,
                 4_040,
             )?,
             None
         );
     }
-    let seeking = row(SELL, 8, 60_000, 4_040, 0);
+    let seeking = row(Side::Sell, Kind::SeekImprovement, 60_000, 4_040, 0);
     assert_eq!(rt;
         deal(
             &Dark,
             seeking,
-            row(BUY, 1, 100, 4_044, 0),
+            row(Side::Buy, Kind::Limit, 100, 4_044, 0),
             Quote::new(4_040, 4_060),
             4_040,
         )?,
@@ -270,8 +276,8 @@ fn dark_edges(rt: HostRuntime) -> Result<(), Fail> {
     assert_eq!(rt;
         deal(
             &Dark,
-            row(BUY, 3, 500, 0, 0),
-            row(SELL, 4, 500, 0, 0),
+            row(Side::Buy, Kind::Market, 500, 0, 0),
+            row(Side::Sell, Kind::MiddlePeg, 500, 0, 0),
             quote,
             200,
         )?,
@@ -280,8 +286,8 @@ fn dark_edges(rt: HostRuntime) -> Result<(), Fail> {
     assert_eq!(rt;
         deal(
             &Dark,
-            row(SELL, 3, 500, 0, 0),
-            row(BUY, 4, 500, 0, 0),
+            row(Side::Sell, Kind::Market, 500, 0, 0),
+            row(Side::Buy, Kind::MiddlePeg, 500, 0, 0),
             quote,
             200,
         )?,
@@ -295,25 +301,25 @@ fn dark_minimums(rt: HostRuntime) -> Result<(), Fail> {
     let quote = Quote::new(4_040, 4_052);
     // the active kind and minimum, the resting limit, shares left and minimum, and the price, for a buyer of 10,000
     let pairs = [
-        (1, 600, 4_044, 500, 0, None),
-        (1, 500, 4_044, 500, 0, Some(4_044)),
-        (1, 0, 4_044, 20_000, 10_100, None),
-        (1, 0, 4_044, 20_000, 10_000, Some(4_044)),
+        (Kind::Limit, 600, 4_044, 500, 0, None),
+        (Kind::Limit, 500, 4_044, 500, 0, Some(4_044)),
+        (Kind::Limit, 0, 4_044, 20_000, 10_100, None),
+        (Kind::Limit, 0, 4_044, 20_000, 10_000, Some(4_044)),
         // the resting minimum is in force only up to what is left
-        (1, 0, 4_044, 9_000, 10_100, Some(4_044)),
-        (6, 6_000, 4_044, 500, 0, Some(4_044)),
-        (6, 6_000, 4_052, 500, 0, None),
-        (6, 6_000, 4_052, 6_000, 0, Some(4_052)),
-        (7, 6_000, 4_052, 500, 0, Some(4_052)),
-        (7, 6_000, 4_044, 500, 0, Some(4_044)),
+        (Kind::Limit, 0, 4_044, 9_000, 10_100, Some(4_044)),
+        (Kind::MinimumEach, 6_000, 4_044, 500, 0, Some(4_044)),
+        (Kind::MinimumEach, 6_000, 4_052, 500, 0, None),
+        (Kind::MinimumEach, 6_000, 4_052, 6_000, 0, Some(4_052)),
+        (Kind::MinimumSum, 6_000, 4_052, 500, 0, Some(4_052)),
+        (Kind::MinimumSum, 6_000, 4_044, 500, 0, Some(4_044)),
     ];
     for (kind, minimum, limit, left, least, expected) in pairs {
-        let active = row(BUY, kind, 10_000, 4_052, minimum);
+        let active = row(Side::Buy, kind, 10_000, 4_052, minimum);
         assert_eq!(rt;
             deal(
                 &Dark,
                 active,
-                row(SELL, 1, left, limit, least),
+                row(Side::Sell, Kind::Limit, left, limit, least),
                 quote,
                 4_040,
             )?,
@@ -323,14 +329,26 @@ fn dark_minimums(rt: HostRuntime) -> Result<(), Fail> {
     // after fills the active minimum shrinks with what is left
     let partly = Row {
         left: 400,
-        ..row(BUY, 1, 10_000, 4_052, 600)
+        ..row(Side::Buy, Kind::Limit, 10_000, 4_052, 600)
     };
     assert_eq!(rt;
-        deal(&Dark, partly, row(SELL, 1, 400, 4_044, 0), quote, 4_040)?,
+        deal(
+            &Dark,
+            partly,
+            row(Side::Sell, Kind::Limit, 400, 4_044, 0),
+            quote,
+            4_040
+        )?,
         Some(4_044)
     );
     assert_eq!(rt;
-        deal(&Dark, partly, row(SELL, 1, 300, 4_044, 0), quote, 4_040)?,
+        deal(
+            &Dark,
+            partly,
+            row(Side::Sell, Kind::Limit, 300, 4_044, 0),
+            quote,
+            4_040
+        )?,
         None
     );
     Ok(())

@@ -15,14 +15,14 @@ use orders::side::Side;
 fn party_fits(entry: &Entry, may_hide: bool) -> bool
     ensures { result ≡ party_fits entry.now may_hide }
 {
-    Side::from_code(entry.side).is_some()
+    Side::try_from(entry.side).is_ok()
         && broker_fits(entry.broker)
-        && Mark::from_code(entry.mark).is_some()
+        && Mark::try_from(entry.mark).is_ok()
         && (entry.hidden == 0 || may_hide && entry.hidden == 1)
 }
 
 // The first wrong field of an entry of a kind that the book trades, where the book says whether it may be hidden, whether
-// its shares are in whole units, and whether its minimum is allowed.
+// its shares are in whole units, and whether its minimum is allowed: outcomes of tests that are not the same in every book.
 pub(crate) fn first_wrong(
     entry: &Entry,
     kind: Kind,

@@ -14,18 +14,17 @@ use orders::kind::Kind;
 use orders::lot::Lot;
 use orders::order::Order;
 use orders::quote::Quote;
-use orders::side::Side;
 
 #[derive(Clone, Copy)]
 pub struct Lit;
 
 // Whether an active order takes a price.
-fn accepts(kind: Kind, side: Side, limit: u32, price: u32) -> bool
-    ensures { result ≡ lit_accepts kind side limit price }
+fn accepts(active: &Order, price: u32) -> bool
+    ensures { result ≡ lit_accepts active.now.kind active.now.side active.now.limit price }
 {
-    match kind {
+    match active.kind {
         Kind::Market => true,
-        _ => side.is_no_worse(price, limit),
+        _ => active.side.is_no_worse(price, active.limit),
     }
 }
 
@@ -33,10 +32,7 @@ fn accepts(kind: Kind, side: Side, limit: u32, price: u32) -> bool
 fn trades(kind: Kind) -> bool
     ensures { result ≡ lit_trades kind }
 {
-    match kind {
-        Kind::Limit | Kind::LimitAtOnce | Kind::Market => true,
-        _ => false,
-    }
+    matches!(kind, Kind::Limit | Kind::LimitAtOnce | Kind::Market)
 }
 
 impl Terms for Lit {
@@ -54,18 +50,13 @@ impl Terms for Lit {
 
     fn deal(&self, active: &Order, resting: &Order, quote: Option<Quote>, lot: Lot) -> Option<u32> {
         let price = resting.limit;
-        if active.side.is_opposite(resting.side)
-            && price != 0
-            && accepts(active.kind, active.side, active.limit, price)
-        {
-            Some(price)
-        } else {
-            None
-        }
+        let deals = active.side.is_opposite(resting.side) && price != 0 && accepts(active, price);
+        deals.then_some(price)
     }
 
+    // The few lines that this book and the dark one have alike differ in all that they hand on.
     fn judge(&self, entry: &Entry, lot: Lot) -> Result<(), Rejection> {
-        let Some(kind) = Kind::from_code(entry.kind) else {
+        let Ok(kind) = Kind::try_from(entry.kind) else {
             return Err(Rejection::BadKind);
         };
         if !trades(kind) {

@@ -24,6 +24,7 @@ pub trait Terms {
     // The verdict: an entry is taken, or what is wrong with it.
     ghost verdict: { Self → Entry → Lot → Outcome (Unit {0}) Rejection };
 
+    // What a deal turns on, four things and no more, is the rule itself; so they stand here one by one.
     fn deal(&self, active: &Order, resting: &Order, quote: Option<Quote>, lot: Lot) -> Option<u32>
         ensures { result ≡ deals self.now active.now resting.now quote lot };
 

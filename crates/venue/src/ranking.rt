@@ -1,15 +1,10 @@
-// The two priorities, chosen while the program runs.
+// The two priorities, chosen while the program runs: by an enum, since a `dyn` cannot be made and handed out.
 ghost use Rattle.std.specs.Prelude.{◌≡◌};
-ghost use Rattle.venue.specs.Rankings.{ranking_before, ranking_of};
-ghost use Rattle.priority.specs.Lawful as lawful;
-ghost use Rattle.priority.specs.Ranking.{large_shares};
-ghost use Rattle.venue.specs.declared.ranking.Ranking.TheVariants.{ByTime, BySize};
+ghost use Rattle.venue.specs.Rankings.{ranking_size, ranking_of};
 
 use crate::venue::Venue;
 use orders::order::Order;
-use priority::candidate::Candidate;
-use priority::priority::Priority;
-use priority::ranking::{PriceBrokerSizeTime, PriceBrokerTime};
+use priority::ranking::{PriceBroker, PriceBrokerSizeTime, PriceBrokerTime};
 
 #[derive(Clone, Copy, PartialEq, Eq, Debug)]
 pub enum Ranking {
@@ -31,33 +26,13 @@ impl Ranking {
     }
 }
 
-impl Priority for Ranking {
-    ghost before = { ranking_before };
+impl PriceBroker for Ranking {
+    ghost counted = { ranking_size };
 
-    ghost irreflexive = { elim [
-      | ByTime ↦ λ a. lawful.irreflexive (λ _. 0) a
-      | BySize ↦ λ a. lawful.irreflexive large_shares a
-    ] };
-
-    ghost transitive = { elim [
-      | ByTime ↦ λ a. lawful.transitive (λ _. 0) a
-      | BySize ↦ λ a. lawful.transitive large_shares a
-    ] };
-
-    ghost one_first = { elim [
-      | ByTime ↦ λ a. lawful.one_first (λ _. 0) a
-      | BySize ↦ λ a. lawful.one_first large_shares a
-    ] };
-
-    ghost better_price = { elim [
-      | ByTime ↦ λ a. lawful.better_price (λ _. 0) a
-      | BySize ↦ λ a. lawful.better_price large_shares a
-    ] };
-
-    fn precedes(&self, active: &Order, first: &Candidate, second: &Candidate) -> bool {
+    fn counted(&self, order: &Order) -> u32 {
         match self {
-            Ranking::ByTime => PriceBrokerTime.precedes(active, first, second),
-            Ranking::BySize => PriceBrokerSizeTime.precedes(active, first, second),
+            Ranking::ByTime => PriceBrokerTime.counted(order),
+            Ranking::BySize => PriceBrokerSizeTime.counted(order),
         }
     }
 }

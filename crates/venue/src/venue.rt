@@ -1,14 +1,10 @@
-// The two books, as terms that are chosen while the program runs.
+// The two books, as terms that are chosen while the program runs: by an enum, since a `dyn` cannot be made and handed out.
+// What is a law of each book's terms is one of the chosen.
 ghost use Rattle.std.specs.Prelude.{◌≡◌};
 ghost use Rattle.venue.specs.Venues.{venue_deals, venue_verdict};
-ghost use Rattle.terms.specs.LitLaws.{lit_priced, lit_sound};
-ghost use Rattle.terms.specs.DarkLaws.{dark_priced, dark_sound};
 ghost use Rattle.venue.specs.declared.venue.Venue.TheVariants.{LitBook, DarkBook};
-ghost use Rattle.terms.specs.Lit.{lit_rules};
-ghost use Rattle.terms.specs.Dark.{dark_rules};
-ghost use Rattle.terms.specs.Taken.{takes};
-ghost use Rattle.terms.specs.Taken;
-ghost use Rattle.std.proofs.Common.{rules};
+ghost use Rattle.terms.specs.contracts.lit.LitTerms.TheImpl.Laws as lit;
+ghost use Rattle.terms.specs.contracts.dark.DarkTerms.TheImpl.Laws as dark;
 
 use orders::entry::Entry;
 use orders::lot::Lot;
@@ -30,22 +26,13 @@ impl Terms for Venue {
 
     ghost verdict = { venue_verdict };
 
-    ghost opposite_sides = { Prim.search rules };
+    ghost opposite_sides = { elim [ LitBook ↦ lit.opposite_sides-law (record {}) | DarkBook ↦ dark.opposite_sides-law (record {}) ] };
 
-    ghost priced = { elim [
-      | LitBook ↦ λ a r q l. lit_priced a r q l
-      | DarkBook ↦ λ a r q l. dark_priced a r q l
-    ] };
+    ghost priced = { elim [ LitBook ↦ lit.priced-law (record {}) | DarkBook ↦ dark.priced-law (record {}) ] };
 
-    ghost in_range = { elim [
-      | LitBook ↦ λ e l taken s low high. takes lit_rules lit_sound e taken s low high
-      | DarkBook ↦ λ e l taken s low high. takes (dark_rules l) (dark_sound l) e taken s low high
-    ] };
+    ghost in_range = { elim [ LitBook ↦ lit.in_range-law (record {}) | DarkBook ↦ dark.in_range-law (record {}) ] };
 
-    ghost modest = { elim [
-      | LitBook ↦ λ e l taken. Taken.modest lit_rules lit_sound e taken
-      | DarkBook ↦ λ e l taken. Taken.modest (dark_rules l) (dark_sound l) e taken
-    ] };
+    ghost modest = { elim [ LitBook ↦ lit.modest-law (record {}) | DarkBook ↦ dark.modest-law (record {}) ] };
 
     fn deal(&self, active: &Order, resting: &Order, quote: Option<Quote>, lot: Lot) -> Option<u32> {
         match self {

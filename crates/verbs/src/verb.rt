@@ -3,7 +3,6 @@ ghost use Rattle.std.specs.Prelude.{◌≡◌};
 ghost use Rattle.verbs.specs.Vocabulary.{verb_of, venue_of, side_of};
 
 use orders::side::Side;
-use reader::fault::TextFault;
 use venue::venue::Venue;
 
 // The first word of a line.
@@ -21,40 +20,41 @@ pub enum Verb {
     Ask,
 }
 
-pub fn verb_word(word: &[u8], at: usize) -> Result<Verb, TextFault>
-    ensures { result ≡ verb_of word.now at }
+// What a word names, if it is a word for a verb. Each of the three tables is byte-slice patterns, as the text asks of words.
+pub fn verb_word(word: &[u8]) -> Option<Verb>
+    ensures { result ≡ verb_of word.now }
 {
     match word {
-        b"OPEN" => Ok(Verb::Open),
-        b"ENTER" => Ok(Verb::Enter),
-        b"AMEND" => Ok(Verb::Amend),
-        b"CANCEL" => Ok(Verb::Cancel),
-        b"QUOTE" => Ok(Verb::Quote),
-        b"NOQUOTE" => Ok(Verb::NoQuote),
-        b"HALT" => Ok(Verb::Halt),
-        b"RESUME" => Ok(Verb::Resume),
-        b"CLOSE" => Ok(Verb::Close),
-        b"ASK" => Ok(Verb::Ask),
-        _ => Err(TextFault::Word(at)),
+        b"OPEN" => Some(Verb::Open),
+        b"ENTER" => Some(Verb::Enter),
+        b"AMEND" => Some(Verb::Amend),
+        b"CANCEL" => Some(Verb::Cancel),
+        b"QUOTE" => Some(Verb::Quote),
+        b"NOQUOTE" => Some(Verb::NoQuote),
+        b"HALT" => Some(Verb::Halt),
+        b"RESUME" => Some(Verb::Resume),
+        b"CLOSE" => Some(Verb::Close),
+        b"ASK" => Some(Verb::Ask),
+        _ => None,
     }
 }
 
-pub fn venue_word(word: &[u8], at: usize) -> Result<Venue, TextFault>
-    ensures { result ≡ venue_of word.now at }
+pub fn venue_word(word: &[u8]) -> Option<Venue>
+    ensures { result ≡ venue_of word.now }
 {
     match word {
-        b"LIT" => Ok(Venue::LitBook),
-        b"DARK" => Ok(Venue::DarkBook),
-        _ => Err(TextFault::Word(at)),
+        b"LIT" => Some(Venue::LitBook),
+        b"DARK" => Some(Venue::DarkBook),
+        _ => None,
     }
 }
 
-pub fn side_word(word: &[u8], at: usize) -> Result<Side, TextFault>
-    ensures { result ≡ side_of word.now at }
+pub fn side_word(word: &[u8]) -> Option<Side>
+    ensures { result ≡ side_of word.now }
 {
     match word {
-        b"BUY" => Ok(Side::Buy),
-        b"SELL" => Ok(Side::Sell),
-        _ => Err(TextFault::Word(at)),
+        b"BUY" => Some(Side::Buy),
+        b"SELL" => Some(Side::Sell),
+        _ => None,
     }
 }

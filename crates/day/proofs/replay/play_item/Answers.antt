@@ -1,33 +1,28 @@
-use Rattle.std.proofs.Common.{◌≡◌, min, length, take, drop, ap, ◌∙◌, subst}
-use Rattle.book.specs.States.{state_of, rules_of}
-use Rattle.book.specs.Calls.{count_in}
-use Rattle.book.proofs.Counting.{answer_counts}
+use Rattle.std.proofs.Common.{◌≡◌, ◌++◌, length, take, drop, refl, ap, ◌∙◌, subst}
+use Rattle.book.specs.Calls.{After, count_in}
 use Rattle.day.specs.Steps.{Step}
-use Rattle.day.specs.Plays.{handed_in, answer_to, step_of}
-use Rattle.day.proofs.Fronts.{front_fills}
-use Rattle.day.proofs.Playing.{step_same}
+use Rattle.day.specs.Plays.{Stand, stand_of, answer_at, step_at}
+use Rattle.day.proofs.Fronts.{asked, laid, made}
 use Rattle.day.proofs.replay.play_item.Goals as goal
 
 pub returns : goal.returns
 returns g c =
-    let b = c.args.book.now in
     let i = c.args.item.now in
-    let rows = c.args.places.now in
-    let fills = c.args.fills.now in
-    let u = rules_of g.T.Terms.deals g.T.Terms.verdict g.P.Priority.before b in
-    let a = answer_to u (length fills) (state_of b) rows i in
-    let e = c.answer_item-reply.ensures in
-    let counts : c.count_in-count.result ≡ length a.fills =
-    c.count_in-count.ensures ∙ ap count_in e.reply ∙ answer_counts u (state_of b) i.call (min i.fills (length fills)) (take (handed_in i rows) rows) in
-    let made : c.front.result.now ≡ a.fills =
-    c.front.ensures ∙ front_fills c.count_in-count.result a.fills (drop (length a.fills) fills) c.answer_item-reply.new.fills counts e.fills in
+    let x : Stand g.row.R.Denot = stand_of g.P.Priority g.T.Terms c.args.book.now c.args.places.now c.args.fills.now c.args.recorder.now in
+    let k = c.min-handed.result in
+    let n = c.min-entries.result in
+    let e = c.answer-reply.ensures in
+    let part = c.answer-reply.new.fills in
+    let r = c.answer-reply.result in
+    let same = asked x.rules x.state x.rows x.fills i k n c.min-handed.ensures c.min-entries.ensures in
+    let rows : c.answer-reply.new.places ++ drop k x.rows ≡ (step_at x i).rows = rw (e.places, same, c.min-handed.ensures) refl in
+    let front : take (count_in r) (part ++ drop n x.fills) ≡ (answer_at x i).fills = made x.rules x.state x.rows x.fills i k n part e.fills c.answer-reply.auto.fills r e.reply ∙ ap (λ (a : After). a.fills) same in
+    let step : ◌≡◌ {A = Step} (record { item = i; reply = r; fills = take (count_in r) (part ++ drop n x.fills); rows = c.answer-reply.new.places ++ drop k x.rows }) (step_at x i) =
+    rw (front, rows, e.reply, same) refl in
     record {
-      state = e.state;
-      rules = e.rules;
-      places = e.places;
-      fills = e.fills;
-      noted =
-          subst (λ (x : Step). g.R.Recorder.notes c.args.recorder.now x c.tell.new.recorder)
-          (step_same i c.answer_item-reply.result a.reply c.front.result.now a.fills c.answer_item-reply.new.places (step_of u (length fills) (state_of b) rows i).rows e.reply made e.places)
-          c.tell.ensures;
+      rules = cc (e.rules.0, e.rules.1);
+      state = e.state ∙ ap (λ (a : After). a.state) same;
+      rows = rows;
+      fills = laid x.rules x.state x.rows x.fills i k n part e.fills c.answer-reply.auto.fills ∙ ap (λ (a : After). a.fills ++ drop (length a.fills) x.fills) same;
+      noted = subst (λ (s : Step). g.R.Recorder.notes x.recorder s c.tell.new.recorder) step c.tell.ensures;
     }

@@ -1,21 +1,14 @@
-use Rattle.std.proofs.Common.{ℕ, List, length, None, ap, arith}
-use Rattle.reader.specs.Seen.{unread}
-use Rattle.session.specs.Desks.{desk_of}
-use Rattle.session.specs.Listings.{listing_from}
+use Rattle.std.proofs.Common.{◌+◌}
 use Rattle.session.proofs.Handing.{lines_more, lines_all}
 use Rattle.session.proofs.text.list_lines.Goals as goal
 
-pub loop-line-preserved : goal.loop-line-preserved
-loop-line-preserved g c =
-    let inv = c.loop-line.invariant in
-    let is = c.in-Some.ensures in
-    let e = c.list_line.ensures in (
-      omega (arith, inv.0, ap (λ (ls : List (List ℕ)). length ls) is),
-      lines_more g.S.Sink.writes (listing_from 1 (unread c.args.reader) None) c.args.sink.now c.loop-line.sink c.list_line.new.sink c.loop-line.number
-          (unread c.loop-line.reader) (unread c.line.new.self) c.in-Some.line.now (desk_of c.loop-line.session) (desk_of c.list_line.new.session) inv.1 is e.desk e.handed,
-    )
+pub loop-i-preserved : goal.loop-i-preserved
+loop-i-preserved g c =
+    let steps = c.in-Some.ensures.steps in
+    let e = c.list_line.ensures in
+    rw (steps.2, ← steps.1)
+    (lines_more g.S.Sink.writes _ c.args.sink.now c.loop-i.sink c.list_line.new.sink (c.in-Some.i + 1) c.loop-i.i-iterator.iter c.next.new.self.iter c.in-Some.line.now _ _
+    (rw (← steps.1) at c.loop-i.invariant) steps.0 e.desk e.handed)
 
 pub returns : goal.returns
-returns g c =
-    lines_all g.S.Sink.writes (listing_from 1 (unread c.args.reader) None) c.args.sink.now c.loop-line.sink c.loop-line.number
-    (unread c.loop-line.reader) (desk_of c.loop-line.session) c.loop-line.invariant.1 c.in_default.ensures.0
+returns g c = lines_all g.S.Sink.writes _ c.args.sink.now c.loop-i.sink _ c.loop-i.i-iterator.iter _ c.loop-i.invariant c.in-None.ensures.steps.0.0

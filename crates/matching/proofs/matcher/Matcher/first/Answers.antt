@@ -1,19 +1,22 @@
-use Rattle.std.proofs.Common.{sym, refl, ap, ◌∙◌}
-use Rattle.std.proofs.lemmas.List.{at_drop_all}
+use Rattle.std.proofs.Common.{sym, ◌∙◌, rules}
+use Rattle.std.proofs.lemmas.Iterator.{YieldsList-from_slice}
+use Rattle.std.proofs.lemmas.Iterator.Consumers.{YieldsList-at, YieldsList-from_enumerate, YieldsList-from_filter_map}
 use Rattle.matching.specs.Market.{market_of}
-use Rattle.matching.specs.Firsts.{candidate_at, earlier, first_from}
-use Rattle.matching.proofs.Scans.{scan_more}
+use Rattle.matching.specs.Firsts.{candidate_at}
+use Rattle.matching.proofs.Reductions.{reduced}
+use Rattle.matching.proofs.Scans.{reduces}
+use Rattle.matching.proofs.Chosen.{ahead, first_scans, first_within}
 use Rattle.matching.proofs.matcher.Matcher.first.Goals as goal
 
-pub loop-i-preserved : goal.loop-i-preserved
-loop-i-preserved g c =
+pub returns-clause-value : goal.returns-clause-value
+returns-clause-value g c =
     let m = market_of g.T.Terms.deals g.P.Priority.before c.args.self.now in
     let a = c.args.active.now in
-    scan_more (first_from m a) (λ i held r. earlier m a held (candidate_at m a i r)) (λ i held r rs. refl)
-    c.args.places.now c.loop-i.i _ c.loop-i.held c.earlier-held.result c.loop-i-test.true (c.earlier-held.ensures ∙ ap (earlier m a c.loop-i.held) c.seen.ensures)
-    ∙ c.loop-i.invariant
+    reduced (ahead m a) _ _ (λ x y r q k. search rules) c.reduce.result c.reduce.ensures.ran
+    (YieldsList-from_filter_map _ (λ p. candidate_at m a p.0 p.1)
+    (YieldsList-at c.filter_map.ensures.source (YieldsList-from_enumerate (YieldsList-at c.enumerate.ensures.source (YieldsList-from_slice c.args.places.now cc)) c.enumerate.ensures.count))
+    c.filter_map.ensures.closure (λ x r q k. search rules))
+    ∙ sym (reduces (first_scans m a) c.args.places.now)
 
-pub returns : goal.returns
-returns g c =
-    sym (at_drop_all (first_from (market_of g.T.Terms.deals g.P.Priority.before c.args.self.now) c.args.active.now c.loop-i.i c.loop-i.held) c.args.places.now c.loop-i.i c.loop-i-test.false)
-    ∙ c.loop-i.invariant
+pub returns-clause-within : goal.returns-clause-within
+returns-clause-within g c = first_within (market_of g.T.Terms.deals g.P.Priority.before c.args.self.now) c.args.active.now c.args.places.now _ (returns-clause-value g c)

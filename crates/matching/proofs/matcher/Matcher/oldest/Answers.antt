@@ -1,19 +1,22 @@
-use Rattle.std.proofs.Common.{sym, refl, ap, ◌∙◌}
-use Rattle.std.proofs.lemmas.List.{at_drop_all}
+use Rattle.std.proofs.Common.{sym, ◌∙◌, rules}
+use Rattle.std.proofs.lemmas.Iterator.{YieldsList-from_slice}
+use Rattle.std.proofs.lemmas.Iterator.Consumers.{YieldsList-at, YieldsList-from_enumerate, YieldsList-from_filter_map}
 use Rattle.matching.specs.Market.{market_of}
-use Rattle.matching.specs.Sweeps.{pair_at, older, oldest_from}
-use Rattle.matching.proofs.Scans.{scan_more}
+use Rattle.matching.specs.Sweeps.{pair_at}
+use Rattle.matching.proofs.Reductions.{least}
+use Rattle.matching.proofs.Scans.{reduces}
+use Rattle.matching.proofs.Pairing.{stamp, oldest_scans, oldest_within}
 use Rattle.matching.proofs.matcher.Matcher.oldest.Goals as goal
 
-pub loop-i-preserved : goal.loop-i-preserved
-loop-i-preserved g c =
+pub returns-clause-value : goal.returns-clause-value
+returns-clause-value g c =
     let m = market_of g.T.Terms.deals g.P.Priority.before c.args.self.now in
     let rows = c.args.places.now in
-    scan_more (oldest_from m rows) (λ i held r. older held (pair_at m rows i r)) (λ i held r rs. refl)
-    rows c.loop-i.i _ c.loop-i.held c.older-held.result c.loop-i-test.true (c.older-held.ensures ∙ ap (older c.loop-i.held) c.pair.ensures)
-    ∙ c.loop-i.invariant
+    least stamp _ _ (λ x n q k. search rules) c.min_by_key.result c.min_by_key.ensures.ran
+    (YieldsList-from_filter_map _ (λ p. pair_at m rows p.0 p.1)
+    (YieldsList-at c.filter_map.ensures.source (YieldsList-from_enumerate (YieldsList-at c.enumerate.ensures.source (YieldsList-from_slice rows cc)) c.enumerate.ensures.count))
+    c.filter_map.ensures.closure (λ x r q k. search rules))
+    ∙ sym (reduces (oldest_scans m rows) rows)
 
-pub returns : goal.returns
-returns g c =
-    sym (at_drop_all (oldest_from (market_of g.T.Terms.deals g.P.Priority.before c.args.self.now) c.args.places.now c.loop-i.i c.loop-i.held) c.args.places.now c.loop-i.i c.loop-i-test.false)
-    ∙ c.loop-i.invariant
+pub returns-clause-within : goal.returns-clause-within
+returns-clause-within g c = oldest_within (market_of g.T.Terms.deals g.P.Priority.before c.args.self.now) c.args.places.now _ (returns-clause-value g c)

@@ -1,14 +1,13 @@
-use Rattle.std.proofs.Common.{◌-◌, false, length}
+use Rattle.std.proofs.Common.{◌≡◌, ℕ, ◌-◌, ◌≤◌, false, length, take, drop}
 use Rattle.matching.specs.Market.{market_of}
-use Rattle.matching.specs.Runs.{run}
-use Rattle.matching.proofs.Running.{Going}
+use Rattle.matching.specs.Runs.{after, run}
 use Rattle.matching.proofs.matcher.Matcher.run.Given as goal
 
+-- the run is the fills so far with the run from here on, and the rest of the list is as it was
 abbrev pub invariant-loop-count : goal.invariant-loop-count
 invariant-loop-count g l =
-    Going (market_of g.T.Terms.deals g.P.Priority.before l.self)
-    (run (market_of g.T.Terms.deals g.P.Priority.before l.self) (length l.initial.fills) false l.initial.active l.initial.places)
-    l.initial.fills l.count l.touched l.active l.places l.fills
-
-abbrev pub decreases-loop-count : goal.decreases-loop-count
-decreases-loop-count g l = length l.initial.fills - l.count
+    let m = market_of g.T.Terms.deals g.P.Priority.before l.self in
+    record {
+      same : run m (length l.initial.fills) false l.initial.active l.initial.places ≡ after (take l.count l.fills) (run m (length l.fills - l.count) l.touched l.active l.places);
+      rest : (k : ℕ) → l.count ≤ k → drop k l.fills ≡ drop k l.initial.fills;
+    }

@@ -1,14 +1,13 @@
-use Rattle.std.proofs.Common.{◌-◌, length}
+use Rattle.std.proofs.Common.{◌≡◌, ℕ, ◌-◌, ◌≤◌, length, take, drop}
 use Rattle.matching.specs.Market.{market_of}
-use Rattle.matching.specs.Sweeps.{sweep}
-use Rattle.matching.proofs.Sweeping.{Sweeping}
+use Rattle.matching.specs.Sweeps.{ahead, sweep}
 use Rattle.matching.proofs.matcher.Matcher.sweep.Given as goal
 
-abbrev pub invariant-loop-count : goal.invariant-loop-count
-invariant-loop-count g l =
-    Sweeping (market_of g.T.Terms.deals g.P.Priority.before l.self)
-    (sweep (market_of g.T.Terms.deals g.P.Priority.before l.self) (length l.initial.fills - l.from) l.initial.places)
-    l.from l.initial.fills l.count l.places l.fills
-
-abbrev pub decreases-loop-count : goal.decreases-loop-count
-decreases-loop-count g l = length l.initial.fills - l.count
+-- the sweep is the fills so far with the sweep from here on, and the rest of the list is as it was
+abbrev pub invariant-loop-made : goal.invariant-loop-made
+invariant-loop-made g l =
+    let m = market_of g.T.Terms.deals g.P.Priority.before l.self in
+    record {
+      same : sweep m (length l.fn.fills - l.from) l.initial.places ≡ ahead (take l.made l.fill-items) (sweep m (length l.fill-items - l.made) l.places);
+      rest : (k : ℕ) → l.made ≤ k → drop k l.fill-items ≡ drop k l.initial.fill-items;
+    }

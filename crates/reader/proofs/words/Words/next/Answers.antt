@@ -1,19 +1,13 @@
-use Rattle.std.proofs.Common.{length, sym, ap, ◌∙◌}
-use Rattle.reader.specs.Seen.{left}
-use Rattle.reader.proofs.Steps.{word_more, word_last, one_on}
+use Rattle.std.proofs.Common.{◌≡◌, ◌-◌, length, option_map, rules, sym, ap, ◌∙◌, arith}
+use Rattle.std.proofs.lemmas.List.{take_rest}
+use Rattle.reader.specs.Words.{words_from, token, onward}
+use Rattle.reader.proofs.Steps.{word_first}
 use Rattle.reader.proofs.words.Words.next.Goals as goal
-use Rattle.reader.proofs.words.Words.next.Goals.{then-stop-end, else-stop-end}
 
 pub returns : goal.returns
 returns c =
-    let self = c.args.self.now in
-    let line = self.line.now in
-    let stop = c.until-stop.result in
-    elim c.if-stop-end.branch [
-      | then-stop-end w ↦
-          let k = one_on (length line) _ _ _ (word_more line self.at stop self.more c.until-stop.ensures.place c.if-not-self.false w.if-stop-end.true) in
-          record { first = c.token_of.ensures ∙ sym k.0; rest = ap left w.self-is ∙ sym k.1 }
-      | else-stop-end w ↦
-          let k = one_on (length line) _ _ _ (word_last line self.at stop self.more c.until-stop.ensures.place c.if-not-self.false w.if-stop-end.false) in
-          record { first = c.token_of.ensures ∙ sym k.0; rest = ap left w.self-is ∙ sym k.1 }
-    ]
+    let line = c.self.inside.line.now in
+    let next : c.map-self-inside.result ≡ option_map (λ r. length line - length r.now) c.part.result.1 = search rules in
+    let todo = ap (words_from line) c.in-Some.is ∙ word_first line _ _ c.in-Some.at _ _ (grind arith) (take_rest line c.in-Some.at) c.part.ensures.front c.part.ensures.whole next in
+    let read = sym c.self.view_is ∙ ap (λ ps. record { last = length line; todo = ps }) todo in
+    record { first = c.token_of.ensures ∙ sym (ap token read); rest = sym (ap onward read) }

@@ -1,6 +1,0 @@
-use Rattle.std.proofs.Common.{◌≡◌, drop}
-use Rattle.reader.specs.Numbers.{number_from}
-use Rattle.reader.proofs.reading.number.Given as goal
-
-abbrev pub invariant-loop-b : goal.invariant-loop-b
-invariant-loop-b l = number_from l.n (drop l.b-index l.word) ≡ number_from 0 l.word
