@@ -15,14 +15,14 @@ use Rattle.book.specs.States.{State, Rules, market}
 use Rattle.book.specs.Calls.{tried, swept, stays_as, resting}
 
 module _ (u : Rules) (s : State) where
-  tried_bounds : (r : Row) (rows : List Row) → spending.Bounds (market u s) r rows (tried u s r rows)
+  pub tried_bounds : (r : Row) (rows : List Row) → spending.Bounds (market u s) r rows (tried u s r rows)
   tried_bounds r rows =
       elim (is_open s.phase) as (λ b. spending.Bounds (market u s) r rows (cond {A = Done} b (run (market u s) (length rows) false r rows) (ended r rows))) [
         | true ↦ spending.run_bounds (market u s) (length rows) false r rows
         | false ↦ record { all = omega arith; few = omega arith; long = refl }
       ]
 
-  swept_bounds : (rows : List Row) → settling.Bounds (market u s) rows (swept u s rows)
+  pub swept_bounds : (rows : List Row) → settling.Bounds (market u s) rows (swept u s rows)
   swept_bounds rows =
       elim (is_open s.phase) as (λ b. settling.Bounds (market u s) rows (cond {A = Swept} b (sweep (market u s) (length rows) rows) (still rows))) [
         | true ↦ settling.sweep_bounds (market u s) (length rows) rows

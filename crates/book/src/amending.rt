@@ -50,12 +50,10 @@ impl<P: Priority, T: Terms> Book<P, T> {
         let place = look_up(number, places)?;
         let cancelled = places[place].left;
         places[place] = Row::cleared();
-        let count = self.swept(places, fills, 0);
         Ok(Receipt {
             number,
             cancelled,
-            fills: count,
-            ..Receipt::default()
+            ..self.settle(places, fills)
         })
     }
 }

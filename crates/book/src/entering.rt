@@ -1,5 +1,5 @@
 // The entry.
-ghost use Rattle.std.specs.Prelude.{◌≡◌, length, Ok};
+ghost use Rattle.std.specs.Prelude.{◌≡◌, ◌-◌, length, Ok};
 ghost use Rattle.book.specs.States.{state_of, rules_in};
 ghost use Rattle.book.specs.Calls.{entry_cause, entered, enter, Leaves};
 
@@ -12,6 +12,19 @@ use places::remainders::{at_once_as, cancelled_of, rests_as, stays_as};
 use places::searching::{free_place, left_at, put};
 use priority::priority::Priority;
 use terms::terms::Terms;
+
+// The reply to an entry: what neither rests nor was cancelled of its shares is filled.
+fn entry_receipt(number: u32, shares: u32, resting: u32, cancelled: u32, count: usize) -> Receipt
+    ensures { result ≡ record { number = number; filled = shares - resting - cancelled; resting = resting; cancelled = cancelled; fills = count } }
+{
+    Receipt {
+        number,
+        filled: shares.saturating_sub(resting).saturating_sub(cancelled),
+        resting,
+        cancelled,
+        fills: count,
+    }
+}
 
 impl<P: Priority, T: Terms> Book<P, T> {
     // The first cause that sends an entry back. Apart from what follows: in one function with it, the proof of the last two
@@ -46,16 +59,7 @@ impl<P: Priority, T: Terms> Book<P, T> {
         let count = self.swept(places, fills, run.count);
         let resting = left_at(places, place);
         let cancelled = cancelled_of(rests, &run.active);
-        Receipt {
-            number: self.next,
-            filled: entry
-                .shares
-                .saturating_sub(resting)
-                .saturating_sub(cancelled),
-            resting,
-            cancelled,
-            fills: count,
-        }
+        entry_receipt(self.next, entry.shares, resting, cancelled, count)
     }
 
     // Enters an order.

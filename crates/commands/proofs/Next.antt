@@ -70,7 +70,7 @@ pub no_pieces : (ps : List Piece) → texts ps ≡ [] → ps ≡ []
 no_pieces [] e = refl
 no_pieces (p ∷ ps) e = cc
 
-number_then_is : {B : Type 0} (r : Rest) (f : ℕ → Rest → Result B TextFault) (n : ℕ) (ws : List (List ℕ)) → Fit n → texts r.todo ≡ decimal n ∷ ws → (number_then r f ≡ f n (onward r)) × (texts (onward r).todo ≡ ws)
+pub number_then_is : {B : Type 0} (r : Rest) (f : ℕ → Rest → Result B TextFault) (n : ℕ) (ws : List (List ℕ)) → Fit n → texts r.todo ≡ decimal n ∷ ws → (number_then r f ≡ f n (onward r)) × (texts (onward r).todo ≡ ws)
 number_then_is r f n ws h e =
     let q = first_is r.todo (decimal n) ws e in
     let t : as_number (token_in r.last r.todo) ≡ Ok n = ap (λ ps. as_number (token_in r.last ps)) q.2 ∙ ap (λ o. as_number (named o q.0)) (ap number_of q.3 ∙ number_to n h) in

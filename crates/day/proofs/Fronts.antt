@@ -15,7 +15,7 @@ use Rattle.day.specs.declared.item.Item.{Item}
 use Rattle.day.specs.Plays.{handed_in, answer_to}
 
 -- fills written over the first entries of the front, with the entries behind it
-laid_front : (k : ℕ) (fs old part : List Fill) → part ≡ written 0 fs (take k old) → length part ≡ length (take k old) → part ++ drop k old ≡ fs ++ drop (length fs) old
+pub laid_front : (k : ℕ) (fs old part : List Fill) → part ≡ written 0 fs (take k old) → length part ≡ length (take k old) → part ++ drop k old ≡ fs ++ drop (length fs) old
 laid_front k fs old part e long =
     let is : part ≡ fs ++ drop (length fs) (take k old) = e ∙ ap (λ (n : ℕ). fs ++ drop n (take k old)) (zero-add (length fs)) in
     let short : length fs ≤ length (take k old) = omega (arith, ap length is, length-append fs (drop (length fs) (take k old)), long) in

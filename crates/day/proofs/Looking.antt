@@ -19,7 +19,7 @@ use Rattle.day.specs.Balances.{held}
 use Rattle.day.specs.Law.{Holds}
 
 -- where no place passes a test
-place_absent : (test : Row → Bool) (rows : List Row) → position test rows ≡ None → (k : ℕ) → k < length rows → test (get_or rows k cleared) ≡ false
+pub place_absent : (test : Row → Bool) (rows : List Row) → position test rows ≡ None → (k : ℕ) → k < length rows → test (get_or rows k cleared) ≡ false
 place_absent test rows e k h = grind (arith, nat_tests, fails_before_first test rows k cleared)
 
 -- there is some value, or none
@@ -30,18 +30,18 @@ cases_some (Some o) = inl (o, refl)
 pub some_is : {X : Type 0} (x : Option X) → is_some x ≡ true → (o : X) × (x ≡ Some o)
 some_is x e = grind (arith, common_steps)
 
-none_is : {X : Type 0} (x : Option X) → is_some x ≡ false → x ≡ None
+pub none_is : {X : Type 0} (x : Option X) → is_some x ≡ false → x ≡ None
 none_is x e = grind (arith, common_steps)
 
 -- a row that holds a number
-holds_order : (n : ℕ) (r : Row) → holds_number n r ≡ true → (o : Order) × (order_of r ≡ Some o) × (r ≡ row_of o) × (o.number ≡ n)
+pub holds_order : (n : ℕ) (r : Row) → holds_number n r ≡ true → (o : Order) × (order_of r ≡ Some o) × (r ≡ row_of o) × (o.number ≡ n)
 holds_order n r e =
     let a = and_parts (is_some (order_of r)) (eqb r.number n) e in
     let o = some_is (order_of r) a.0 in
     let w = row_is r o.0 o.1 in
     (o.0, o.1, sym w, ap (λ (x : Row). x.number) w ∙ eqb-true r.number n a.1)
 
-holds_from_lem : (n : ℕ) (r : Row) (o : Order) → r ≡ row_of o → o.number ≡ n → holds_number n r ≡ true
+pub holds_from_lem : (n : ℕ) (r : Row) (o : Order) → r ≡ row_of o → o.number ≡ n → holds_number n r ≡ true
 holds_from_lem n r o e q = grind arith
 
 module _ (places : ℕ) (s : Orders) (rows : List Row) (h : Holds places s rows) where

@@ -1,5 +1,5 @@
 -- What a sink was handed.
-use Rattle.std.specs.Prelude.{◌≡◌, ℕ, Bool, false, List, [], ◌∷◌, ◌++◌, Ok, Err, Result, String, string_bytes}
+use Rattle.std.specs.Prelude.{◌≡◌, ℕ, Bool, false, List, [], ◌∷◌, ◌++◌}
 use Rattle.listing.specs.declared.line.Line.{Line}
 use Rattle.listing.specs.Lines.{line_bytes}
 
@@ -11,8 +11,3 @@ Handed {S = S} writes s (l ∷ ls) t = (m : S) × writes s l m × Handed writes 
 -- a keeper that is not full after a line was not full before it, and has the line's bytes after those that it had
 abbrev pub Appends : (full : Bool) → List ℕ → Line → (full' : Bool) → List ℕ → Type 0
 Appends full bytes l full' bytes' = full' ≡ false → (full ≡ false) × (bytes' ≡ bytes ++ line_bytes l)
-
--- the bytes that are kept, of which there are none once memory ended
-abbrev pub kept_bytes : {A E : Type 0} → Result (String A) E → List ℕ
-kept_bytes (Ok s) = string_bytes s
-kept_bytes (Err e) = []

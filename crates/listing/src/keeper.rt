@@ -1,44 +1,45 @@
 // A sink that keeps the bytes.
-ghost use Rattle.std.specs.Prelude.{◌≡◌, [], is_err, IsOkAnd, string_bytes};
-ghost use Rattle.listing.specs.Sinks.{Appends, kept_bytes};
+ghost use Rattle.std.specs.Prelude.{◌≡◌, [], Ok, Err, is_err, string_bytes, MatchResult};
+ghost use Rattle.listing.specs.Sinks.{Appends};
 
 use crate::line::Line;
 use crate::sink::Sink;
 use std::alloc::{AllocError, Global};
 use std::fmt::Write;
 
-// What keeps a day's steps has another shape, since they can be read after memory ended.
 #[derive(Drop)]
 pub struct Keeper {
-    // the bytes of all lines; from the moment that memory ended, its error
-    pub(crate) kept: Result<String, AllocError>,
+    pub(crate) bytes: String,
+    // an error once memory ended; nothing is kept from then on
+    pub(crate) outcome: Result<(), AllocError>,
 }
 
 impl Keeper {
     pub fn new(heap: Global) -> Keeper
-        ensures { IsOkAnd result.kept (λ s. string_bytes s ≡ []) }
+        ensures { (string_bytes result.bytes ≡ []) × (result.outcome ≡ Ok tt) }
     {
         Keeper {
-            kept: Ok(String::new(heap)),
+            bytes: String::new(heap),
+            outcome: Ok(()),
         }
     }
 
-    // All that was kept, unless memory ended.
+    // All that was kept, unless memory ended: what stood before a gap is no listing.
     pub fn into_listing(self) -> Result<String, AllocError>
-        ensures { result ≡ self.kept }
+        ensures { MatchResult result (λ x. (x ≡ self.bytes) × (self.outcome ≡ Ok tt)) (λ e. self.outcome ≡ Err e) }
     {
-        self.kept
+        let Keeper { bytes, outcome } = self;
+        outcome?;
+        Ok(bytes)
     }
 }
 
 impl Sink for Keeper {
-    ghost writes = { λ s l t. Appends (is_err s.kept) (kept_bytes s.kept) l (is_err t.kept) (kept_bytes t.kept) };
+    ghost writes = { λ s l t. Appends (is_err s.outcome) (string_bytes s.bytes) l (is_err t.outcome) (string_bytes t.bytes) };
 
     fn write_line(&mut self, line: &Line) {
-        if let Ok(bytes) = &mut self.kept {
-            if let Err(error) = write!(bytes, "{line}") {
-                self.kept = Err(error);
-            }
+        if self.outcome.is_ok() {
+            self.outcome = write!(self.bytes, "{line}");
         }
     }
 }

@@ -8,7 +8,7 @@ use Rattle.matching.specs.Sums.{weighed, sum_of}
 use Rattle.matching.proofs.Reductions.{better}
 
 -- which way a choice went
-cond_came : {X : Type 0} (t : Bool) (x y z : X) → cond t x y ≡ z → ((t ≡ true) × (x ≡ z)) ⊎ ((t ≡ false) × (y ≡ z))
+pub cond_came : {X : Type 0} (t : Bool) (x y z : X) → cond t x y ≡ z → ((t ≡ true) × (x ≡ z)) ⊎ ((t ≡ false) × (y ≡ z))
 cond_came true x y z e = inl (refl, e)
 cond_came false x y z e = inr (refl, e)
 

@@ -41,6 +41,13 @@ impl TryFrom<u32> for Mark {
     }
 }
 
+// The number of the hidden mark.
+pub(crate) fn hidden_code(hidden: bool) -> u32
+    ensures { Encodes hidden_code hidden_of hidden result }
+{
+    hidden.into()
+}
+
 // The hidden mark of a number. It is a `bool`, which has no `TryFrom` of a number.
 pub(crate) fn hidden_from_code(code: u32) -> Result<bool, UnknownCode>
     ensures { Decodes hidden_code hidden_of code result }

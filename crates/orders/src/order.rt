@@ -3,7 +3,7 @@ ghost use Rattle.std.specs.Prelude.{◌≡◌, true};
 ghost use Rattle.orders.specs.Ranges.{order_fits};
 
 use crate::kind::Kind;
-use crate::mark::Mark;
+use crate::mark::{Mark, hidden_code};
 use crate::row::Row;
 use crate::side::Side;
 
@@ -44,7 +44,7 @@ impl Order {
             minimum: self.minimum,
             broker: self.broker,
             mark: self.mark.into(),
-            hidden: self.hidden.into(),
+            hidden: hidden_code(self.hidden),
             stamp: self.stamp,
             number: self.number,
         }

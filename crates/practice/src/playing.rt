@@ -147,7 +147,8 @@ pub(crate) struct Setting<P, T> {
 }
 
 impl<P: Priority + Drop, T: Terms + Drop> Setting<P, T> {
-    // Opens a book with so many places, and plays a day in it.
+    // Opens a book with so many places, at most eight, and plays a day in it. The rows and the fills are arrays, so that no day
+    // can want memory.
     pub(crate) fn play(
         self,
         rt: &HostRuntime,
@@ -159,12 +160,14 @@ impl<P: Priority + Drop, T: Terms + Drop> Setting<P, T> {
             terms,
             last,
         } = self;
-        let mut rows = vec![in rt.alloc(); Row::cleared(); places]?;
-        let mut fills = vec![in rt.alloc(); Fill::BLANK; places]?;
-        match Book::open(priority, terms, last, &mut rows) {
+        let mut rows = [Row::cleared(); 8];
+        let mut fills = [Fill::BLANK; 8];
+        let rows = &mut rows[..places.min(8)];
+        let fills = &mut fills[..places.min(8)];
+        match Book::open(priority, terms, last, rows) {
             Ok(mut book) => {
                 print_line(rt, 1, Report::Taken(Receipt::default()))?;
-                play_steps(rt, &mut book, steps, &mut rows, &mut fills)
+                play_steps(rt, &mut book, steps, rows, fills)
             }
             Err(refusal) => print_line(rt, 1, Report::Refused(refusal)),
         }

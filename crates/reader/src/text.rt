@@ -7,6 +7,7 @@ ghost use Rattle.reader.specs.Lines.{lines, Parted};
 
 use crate::fault::{LONGEST_TEXT, TextFault};
 use crate::part::part;
+pub use crate::words::Token;
 use std::marker::Model;
 
 // Reads a lent text line by line, each line without its end. Contracts see the lines that are still to come.

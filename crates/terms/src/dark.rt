@@ -32,7 +32,7 @@ fn inside_price(side: Side, quote: &Quote) -> u32
     }
 }
 
-// The functions below take the order, the quote and the lot of the deal as `deal` does.
+// The functions below take of the order, the quote and the lot of the deal what they need, as `deal` has it.
 
 // The price at which a resting order stands, if its kind rests.
 fn standing_price(resting: &Order, quote: &Quote) -> Option<u32>

@@ -30,11 +30,12 @@ returns g c =
     let w = swept u s (resting e rows d) in
     let count : c.swept-count.result ≡ length d.fills + length w.fills = search rules in
     let made : c.swept-count.new.fills ≡ written (length d.fills) w.fills (written 0 d.fills c.args.fills.now) = search rules in
+    let told : c.entry_receipt.result.fills ≡ c.swept-count.result = search rules in
     record {
       reply = search rules;
       state = search rules;
       rules = search rules;
       places = search rules;
       fills = made ∙ written_twice d.fills w.fills c.args.fills.now (length d.fills) refl;
-      few = omega (arith, few u s e rows);
+      few = omega (arith, told, few u s e rows);
     }
