@@ -1,6 +1,7 @@
 -- Scans through the places in turn, that keep the better of what they have seen.
 use Rattle.std.proofs.Common.{◌≡◌, ℕ, suc, ◌+◌, ◌-◌, ◌<◌, Bool, true, false, cond, ◌⊎◌, List, [], ◌∷◌, length, get_or, Some, None, Option, sym, refl, ap, ◌∙◌, subst, inl, inr, ⊎_elim, add-one, add-zero, add-suc, suc-add, zero-add, arith}
-use Rattle.std.specs.List.{fold, reduce, filter_map, cons_option, enumerate_from}
+use Rattle.std.specs.List.{fold, reduce, filter, filter_map, cons_option, enumerate_from}
+use Rattle.std.proofs.lemmas.Bool.{cases_Bool, cond-true, cond-false}
 use Rattle.orders.specs.Rows.{order_of, cleared}
 use Rattle.orders.specs.declared.order.Order.{Order}
 use Rattle.orders.specs.declared.row.Row.{Row}
@@ -72,3 +73,13 @@ module _ {X : Type 0} {ahead : X → X → Bool} {at : ℕ → Row → Option X}
 pub fold_lacks : (g : Order → ℕ) (shares : ℕ) (rows : List Row) → fold (λ lack r. lack - weighed g (order_of r)) shares rows ≡ shares - sum_of g rows
 fold_lacks g shares [] = omega arith
 fold_lacks g shares (r ∷ rs) = fold_lacks g (shares - weighed g (order_of r)) rs ∙ omega arith
+
+-- what is left out gives nothing, so nothing changes
+pub filtered_map : {A B : Type 0} (test : A → Bool) (h : A → Option B) → ((x : A) → test x ≡ false → h x ≡ None) → (xs : List A) → filter_map h (filter test xs) ≡ filter_map h xs
+filtered_map test h none [] = refl
+filtered_map test h none (x ∷ xs) =
+    let rest = filtered_map test h none xs in
+    ⊎_elim
+    (λ (t : test x ≡ true). ap (filter_map h) (cond-true (test x) (x ∷ filter test xs) (filter test xs) t) ∙ ap (cons_option (h x)) rest)
+    (λ (f : test x ≡ false). ap (filter_map h) (cond-false (test x) (x ∷ filter test xs) (filter test xs) f) ∙ rest ∙ ap (λ o. cons_option o (filter_map h xs)) (sym (none x f)))
+    (cases_Bool (test x))

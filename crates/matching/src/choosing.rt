@@ -53,9 +53,11 @@ impl<P: Priority, T: Terms> Matcher<P, T> {
         ensures value { result ≡ first (market_of T.deals P.before self.now) active.now places.now }
         ensures within { IfSome result (λ f. f.place < length places.now) }
     {
+        // Left out before an item is made of them: most rows are passed over, and an empty item costs as much as a full one.
         places
             .iter()
             .enumerate()
+            .filter(|seen| !passed_over(active, seen.1))
             .filter_map(|(place, row)| self.candidate(active, place, row))
             .reduce(|held, next| self.earlier(active, held, next))
     }
